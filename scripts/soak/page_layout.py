@@ -1,37 +1,28 @@
-"""Works out once more where each box, tab and line of a pipeline's picture lies: in pixels, by whole numbers, rounded down.
+"""Works out once more where each box, tab and line of a pipeline's picture lies: in pixels, in whole numbers, rounded down.
 
 Columns stand from left to right: a job is right of the jobs that its inputs name in `passed`. A line leads from one column to the next one. Where it goes
 farther, it passes each column between them in a slot, which no box touches. A line that doesn't lead to the right goes back in a lane below all boxes.
 """
 import collections
-import dataclasses
-
 import page_reader
 
 LETTER, BOX_MARGIN, LEAST_UNITS = 8, 20, 8  # a box is as wide as its text, a unit of which has so many pixels, and a margin
 TAB_LETTER, TAB_MARGIN, TAB_HEIGHT = 7, 12, 18
 RESOURCE_HEIGHT, LEAST_JOB_HEIGHT, PORT_HEIGHT = 40, 46, 22
-BELOW_BOX, BELOW_SLOT = 18, 12  # free space
-BELOW_ALL, LANE_HEIGHT, BEND = 16, 14, 28  # where the first lane lies, and each other one; how far a line reaches out that goes back
+BELOW_BOX, BELOW_SLOT, BELOW_ALL, MARGIN = 18, 12, 16, 40  # free space; MARGIN is that at the sides
+LANE_HEIGHT, BEND = 14, 28  # a line that goes back reaches so far out
 LAST = 1 << 30  # the key of a box that is near nothing
 
-Layout = collections.namedtuple("Layout", "size boxes tabs lines")
 Band = collections.namedtuple("Band", "left inner right")  # a column: its tabs begin, its boxes begin, its boxes end
 Piece = collections.namedtuple("Piece", "source target offset trigger")  # of a line; it ends so far below its target's top
 
 
-@dataclasses.dataclass(eq=False)
 class Item:
     """What stands in a column: the box of a resource or a job, or a slot of the lines that begin there, which has no height."""
-    number: int
-    column: int
-    height: int = 0
-    width: int = 0
-    tab_widths: list = ()
-    top: int = 0
-    want: int = None
-    arriving: list = dataclasses.field(default_factory=list)
-    leaving: list = dataclasses.field(default_factory=list)
+
+    def __init__(self, number, column, height=0, width=0, tab_widths=()):
+        self.number, self.column, self.height, self.width, self.tab_widths = number, column, height, width, tab_widths
+        self.top, self.want, self.arriving, self.leaving = 0, None, [], []
 
     def middle(self):
         return self.top + self.height // 2
@@ -53,27 +44,25 @@ def cut_units(text, most):
     return min(page_reader.units(text), most + 1)
 
 
-# ---- columns
 def layers_of(named, steps):
-    """How long the longest chain of jobs before each job is, by the jobs that it names. A cycle is cut before a job on it."""
+    """How long the longest chain of jobs before each job is, by the jobs that each one names. Where all that are left wait for one another, the first of them
+    leads to a job on a cycle, by so many steps back, and this one waits no longer."""
     layers, left = [0] * len(named), dict.fromkeys(range(len(named)))
     while left:
         job = next((job for job in left if not any(it in left for it in named[job])), None)
         if job is None:
             job = next(iter(left))
-            for _ in range(steps):  # so many steps back end on a cycle
+            for _ in range(steps):
                 job = next(it for it in named[job] if it in left)
+        layers[job] = max((layers[it] + 1 for it in named[job] if it not in left), default=0)
         del left[job]
-        for other in left:
-            if job in named[other]:
-                layers[other] = max(layers[other], layers[job] + 1)
     return layers
 
 
 def columns_of(resources, jobs, edges):
     """The columns of the resources and of the jobs. A resource stands before the first job that takes it, otherwise behind the last one that puts it."""
     named = [[source - resources for source, target, _, _ in edges if source >= resources and target == resources + job] for job in range(jobs)]
-    columns = [0] * resources + [layer + 1 for layer in layers_of(named, resources + jobs)]
+    columns = [0] * resources + [layer + 1 for layer in layers_of(named, resources + jobs)]  # as many steps as boxes
     for resource in range(resources):
         takes = [columns[target] - 1 for source, target, _, _ in edges if source == resource]
         puts = [columns[source] + 1 for source, target, _, _ in edges if target == resource]
@@ -92,27 +81,23 @@ def boxes_of(made, below, edges):
     return boxes
 
 
-def join(source, target, offset, trigger):
-    piece = Piece(source, target, offset, trigger)
-    source.leaving.append(piece)
-    target.arriving.append(piece)
-
-
 def chains_of(boxes, edges):
-    """Each box with its slots, one in each column up to the last one that its lines lead to; all are joined by pieces of lines."""
-    chains = [[box] for box in boxes]
-    for chain in chains:
-        box = chain[0]
+    """Each box with its slots, one in each column before the last one that its lines lead to. Pieces of lines join them."""
+    chains, pieces = [[box] for box in boxes], []
+    for box, chain in zip(boxes, chains):
         for column in range(box.column + 1, max((boxes[target].column for source, target, _, _ in edges if source == box.number), default=0)):
             chain.append(Item(box.number, column))
-            join(chain[-2], chain[-1], 0, True)
+            pieces.append(Piece(chain[-2], chain[-1], 0, True))
     for source, target, port, trigger in edges:
         if boxes[source].column < boxes[target].column:
-            join(chains[source][boxes[target].column - 1 - boxes[source].column], boxes[target], boxes[target].port(port), trigger)
+            before = chains[source][boxes[target].column - 1 - boxes[source].column]
+            pieces.append(Piece(before, boxes[target], boxes[target].port(port), trigger))
+    for piece in pieces:
+        piece.source.leaving.append(piece)
+        piece.target.arriving.append(piece)
     return chains
 
 
-# ---- tops
 def level_from_left(item):
     """The top at which the lines from the left are level: those that trigger, or all if none does."""
     return mean([it.source.middle() - it.offset for it in [it for it in item.arriving if it.trigger] or item.arriving])
@@ -120,12 +105,11 @@ def level_from_left(item):
 
 def level_to_right(item):
     """The top at which the lines to the right are level, where none comes from the left."""
-    level = None if item.arriving else mean([it.target.top + it.offset for it in item.leaving])
-    return None if level is None else level - item.height // 2
+    return mean([it.target.top + it.offset for it in item.leaving]) - item.height // 2 if item.leaving and not item.arriving else None
 
 
 def near(item, resources):
-    """The height that a box without lines from the left is near to: in the first column by the numbers of its jobs, in a later one by what leads there, too."""
+    """The height that a box without lines from the left is near to: by the numbers of its jobs in the first column, by what else leads to them later."""
     targets = [it.target for it in item.leaving if it.target.height]
     if item.column == 0:
         return mean([64 * (it.number - resources) for it in targets])
@@ -162,18 +146,18 @@ def pull(items, wish):
         lowest = item.top
 
 
-# ---- what is drawn
 def bands_of(columns):
     """The columns beside each other, farther from each other the more lines end there."""
     bands = []
     for items in columns:
-        left = bands[-1].right + 46 + min(90, 3 * sum(len(it.arriving) for it in items)) if bands else 40
+        left = bands[-1].right + 46 + min(90, 3 * sum(len(it.arriving) for it in items)) if bands else MARGIN
         inner = left + max((width for it in items for width in it.tab_widths), default=0)
         bands.append(Band(left, inner, inner + max((it.width for it in items), default=0)))
     return bands
 
 
 def curve(x, y, to_x, to_y):
+    """A path from a point to another one, level at both ends."""
     middle = (x + to_x) // 2
     return f"M{x} {y}" + (f"H{to_x}" if y == to_y else f"C{middle} {y} {middle} {to_y} {to_x} {to_y}")
 
@@ -195,7 +179,7 @@ def lines_of(chains, edges, bands, lanes):
 
 
 def layout_of(made, below):
-    """The picture of a pipeline with these texts below the names: its size, boxes, tabs, and lines as paths."""
+    """What the picture of a pipeline with these texts below the names has, by its kind."""
     links = [f"#r{k}" for k in range(len(made["resources"]))] + [f"#j{k}" for k in range(len(made["jobs"]))]
     edges = [(links.index(source), links.index(target), port, trigger) for source, target, port, trigger in page_reader.edges_of(made)]
     boxes = boxes_of(made, below, edges)
@@ -208,10 +192,10 @@ def layout_of(made, below):
     for items in columns:
         pull(items, level_from_left)
     bands, bottom = bands_of(columns), max(it.top + it.height for items in columns for it in items)
-    ends = sorted({target for source, target, _, _ in edges if boxes[target].column <= boxes[source].column})
-    lanes = {target: bottom + BELOW_ALL + LANE_HEIGHT * k for k, target in enumerate(ends)}
-    height = bottom + (BELOW_ALL + LANE_HEIGHT * len(ends) if ends else 0)
-    frames = [(link, bands[it.column].inner, it.top, bands[it.column].right - bands[it.column].inner, it.height) for link, it in zip(links, boxes)]
+    ends = {target for source, target, _, _ in edges if boxes[target].column <= boxes[source].column}
+    lanes = {target: bottom + BELOW_ALL + LANE_HEIGHT * k for k, target in enumerate(sorted(ends))}
+    boxed = [(link, bands[it.column].inner, it.top, bands[it.column].right - bands[it.column].inner, it.height) for link, it in zip(links, boxes)]
     tabs = [(bands[it.column].left, it.top + it.port(port) - TAB_HEIGHT // 2, bands[it.column].inner - bands[it.column].left, TAB_HEIGHT)
             for it in boxes for port, width in enumerate(it.tab_widths) if width]
-    return Layout((0, -12, bands[-1].right + 40, height + 24), frames, tabs, [*lines_of(chains, edges, bands, lanes)])
+    height = bottom + (BELOW_ALL + LANE_HEIGHT * len(ends) if ends else 0)
+    return {"size": [(0, -12, bands[-1].right + MARGIN, 12 + height + 12)], "box": boxed, "tab": tabs, "line": [*lines_of(chains, edges, bands, lanes)]}
