@@ -12,7 +12,6 @@ RESOURCE_HEIGHT, LEAST_JOB_HEIGHT, PORT_HEIGHT = 40, 46, 22
 BELOW_BOX, BELOW_SLOT, BELOW_ALL, MARGIN = 18, 12, 16, 40  # free space; MARGIN is that at the sides
 LANE_HEIGHT, BEND = 14, 28  # a line that goes back reaches so far out
 LAST = 1 << 30  # the key of a box that is near nothing
-
 Band = collections.namedtuple("Band", "left inner right")  # a column: its tabs begin, its boxes begin, its boxes end
 Piece = collections.namedtuple("Piece", "source target offset trigger")  # of a line; it ends so far below its target's top
 
