@@ -124,8 +124,8 @@ def short(version):
 
 # ---- the picture
 Box = collections.namedtuple("Box", "to kind left top width height name below full")
-Tab = collections.namedtuple("Tab", "left top width text")
-Line = collections.namedtuple("Line", "group points")
+Tab = collections.namedtuple("Tab", "left top width height text")
+Line = collections.namedtuple("Line", "group points path")
 
 
 def numbers_of(d):
@@ -161,9 +161,9 @@ class Picture:
         lines, = svg.own("g")
         for group in lines.own("g"):
             if group["class"] == "i":
-                self.tabs += [Tab(int(it["x"]), int(it["y"]), int(it["width"]), it.text()) for it in group.own("svg")]
+                self.tabs += [Tab(*(int(it[k]) for k in ("x", "y", "width", "height")), it.text()) for it in group.own("svg")]
             else:
-                self.lines += [Line(group["class"], numbers_of(it["d"])) for it in group.own("path")]
+                self.lines += [Line(group["class"], numbers_of(it["d"]), it["d"]) for it in group.own("path")]
 
 
 def steps_of(plan):
@@ -228,7 +228,7 @@ def picture_faults(made, picture):
             if not box.top < y < box.top + box.height:
                 bad.append(f"port {port} of {job['name']} isn't at its box")
             if passed:
-                expected.append(Tab(box.left - widest[column[box.to]], y - 9, widest[column[box.to]], shown(cut(of, WIDE[1]))))
+                expected.append(Tab(box.left - widest[column[box.to]], y - 9, widest[column[box.to]], 18, shown(cut(of, WIDE[1]))))
     if expected != picture.tabs:
         bad.append(f"the tabs are others: {[it for it in picture.tabs if it not in expected][:2]}, not {[it for it in expected if it not in picture.tabs][:2]}")
     for n in range(len(made["resources"])):
