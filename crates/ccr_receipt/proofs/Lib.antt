@@ -1,0 +1,6 @@
+pub mod Behind
+pub mod Checking
+pub mod Choosing
+pub mod Ending
+pub mod Judging
+pub mod Naming

@@ -1,0 +1,116 @@
+//! The second line that is said of a receipt: when its build was made, by which pipeline, and behind which builds.
+
+ghost use Rattle.std.specs.Prelude.{◌≡◌, ◌++◌, not, count_by, OnOk, string_bytes};
+ghost use Rattle.std.specs.List.{list_any};
+ghost use Rattle.ccr_receipt.specs.Words.{newest_words, more_words, seen_count_words, is_cut, cut_words, the_pipeline, known_words, pipeline_words, way_words};
+
+use crate::build::Build;
+use crate::chosen::Chosen;
+use crate::named::put_build;
+use crate::receipt::Receipt;
+use std::alloc::AllocError;
+
+/// How many builds are named at the most.
+const MOST_NAMED: usize = 8;
+
+/// Adds these builds, the last of them first.
+#[tactic(auto, using(crate::proofs::Naming::newest_next))]
+fn put_newest(out: &mut String, builds: &[Build]) -> Result<(), AllocError>
+    ensures { OnOk result (string_bytes out.new ≡ string_bytes out.old ++ newest_words builds.now) }
+{
+    match builds {
+        [] => out.push_str("no builds"),
+        [build] => put_build(out, build),
+        [build, newer @ ..] => {
+            put_newest(out, newer)?;
+            out.push_str(", ")?;
+            put_build(out, build)
+        }
+    }
+}
+
+fn put_more(out: &mut String, count: usize) -> Result<(), AllocError>
+    ensures { OnOk result (string_bytes out.new ≡ string_bytes out.old ++ more_words count) }
+{
+    if count > MOST_NAMED {
+        let more = count - MOST_NAMED;
+        write!(out, " and {more} more")
+    } else {
+        Ok(())
+    }
+}
+
+fn seen_count(builds: &[Build]) -> usize
+    ensures { result ≡ count_by (λ b. not b.is_asked) builds.now }
+{
+    builds.iter().filter(|build| !build.is_asked).count()
+}
+
+fn put_seen_count(out: &mut String, count: usize) -> Result<(), AllocError>
+    ensures { OnOk result (string_bytes out.new ≡ string_bytes out.old ++ seen_count_words count) }
+{
+    if count > 0 {
+        write!(out, "; of {count} it isn't known what they had to pass")
+    } else {
+        Ok(())
+    }
+}
+
+fn is_cut(build: &Build) -> bool
+    ensures { result ≡ is_cut build.now }
+{
+    build.gates.iter().any(|gate| gate.beyond)
+}
+
+fn are_cut(builds: &[Build]) -> bool
+    ensures { result ≡ list_any is_cut builds.now }
+{
+    builds.iter().any(|build| is_cut(build))
+}
+
+fn put_cut(out: &mut String, receipt: &Receipt) -> Result<(), AllocError>
+    ensures { OnOk result (string_bytes out.new ≡ string_bytes out.old ++ cut_words receipt.now) }
+{
+    if are_cut(&receipt.before) || is_cut(&receipt.own) {
+        out.push_str("; cut")
+    } else {
+        Ok(())
+    }
+}
+
+#[tactic(auto, unfolding(crate::specs::Words::the_pipeline))]
+fn the_pipeline() -> &'static str
+    ensures { result.now ≡ the_pipeline }
+{
+    "the pipeline "
+}
+
+fn put_known(out: &mut String, chosen: &Chosen) -> Result<(), AllocError>
+    ensures { OnOk result (string_bytes out.new ≡ string_bytes out.old ++ known_words chosen.now) }
+{
+    out.push_str(the_pipeline())?;
+    out.push_str(chosen.pipeline.as_str())
+}
+
+fn put_pipeline(out: &mut String, chosen: &Option<Chosen>) -> Result<(), AllocError>
+    ensures { OnOk result (string_bytes out.new ≡ string_bytes out.old ++ pipeline_words chosen.now) }
+{
+    match chosen {
+        Some(chosen) => put_known(out, chosen),
+        None => out.push_str("a pipeline that isn't known"),
+    }
+}
+
+/// Adds when the build was made, by which pipeline, and behind which builds.
+pub(crate) fn put_way(out: &mut String, receipt: &Receipt) -> Result<(), AllocError>
+    ensures { OnOk result (string_bytes out.new ≡ string_bytes out.old ++ way_words receipt.now) }
+{
+    let before: &[Build] = &receipt.before;
+    write!(out, "build {} of all, by ", receipt.own.made)?;
+    put_pipeline(out, &receipt.chosen)?;
+    out.push_str("; behind it ")?;
+    put_newest(out, &before[before.len().saturating_sub(MOST_NAMED)..])?;
+    put_more(out, before.len())?;
+    put_seen_count(out, seen_count(before))?;
+    put_cut(out, receipt)
+}
