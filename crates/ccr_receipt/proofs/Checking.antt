@@ -29,7 +29,7 @@ pub same_bytes : (xs ys : List ℕ) → bytes_eq xs ys ≡ true → xs ≡ ys
 same_bytes xs ys h = (bytes_eq-Decides xs ys).0 h
 
 -- the claim is the build's
-claim_is : (b : BuildSaid) (c : Claim) → is_claim b c ≡ true → c ≡ Best (record { places = own_places b; builds = own_builds b })
+pub claim_is : (b : BuildSaid) (c : Claim) → is_claim b c ≡ true → c ≡ Best (record { places = own_places b; builds = own_builds b })
 unfolding is_claim
 claim_is b Nothing h = absurd (false≢true h)
 claim_is b (Best c) h =
@@ -38,7 +38,7 @@ claim_is b (Best c) h =
     (same_bytes c.builds (own_builds b) parts.1)
 
 -- so is it where all numbers are the names'
-claim_tied : (r : ReceiptSaid) (c : ChosenSaid) → is_tied r c ≡ true → is_claim r.own c.claim ≡ true
+pub claim_tied : (r : ReceiptSaid) (c : ChosenSaid) → is_tied r c ≡ true → is_claim r.own c.claim ≡ true
 unfolding is_tied
 claim_tied r c h =
     let alike : Bool = are_alike r.before (used_resources r.own) r.own.gates c.problem.jobs in

@@ -1,11 +1,11 @@
 -- Lists that are gone through together, where one of them has ended.
-use Rattle.std.proofs.Common.{◌≡◌, ℕ, Bool, true, false, ◌&&◌, ◌==◌, List, [], ◌∷◌, length, map, refl, sym, ap, arith}
+use Rattle.std.proofs.Common.{◌≡◌, ℕ, Bool, true, false, ◌&&◌, ◌==◌, List, [], ◌∷◌, ◌++◌, length, map, refl, sym, ap, arith}
 use Rattle.std.proofs.lemmas.Bool.{ne_eqb}
 use Rattle.std.specs.Str.{bytes_eq}
 use Rattle.ccr_choice.specs.Problem.{InputValue, BuildValue}
 use Rattle.ccr_receipt.specs.Receipt.{Bytes, GateSaid, InputSaid, BuildSaid, LimitSaid, ReceiptSaid}
 use Rattle.ccr_receipt.specs.Choice.{are_limits, are_bound, are_alike}
-use Rattle.ccr_receipt.specs.Words.{all_took}
+use Rattle.ccr_receipt.specs.Words.{took_words, and_words, all_took}
 
 -- what isn't empty has a length
 nonempty : {A : Type 0} (x : A) (xs : List A) → false ≡ (length (x ∷ xs) == 0)
@@ -91,3 +91,8 @@ took_end r front [] ls xs h = refl
 took_end r front (i ∷ is) [] xs h = refl
 took_end r front (i ∷ is) (l ∷ ls) [] h = refl
 took_end r front (i ∷ is) (l ∷ ls) (x ∷ xs) h = absurd (omega arith)
+
+-- one more
+pub took_next : (r : ReceiptSaid) (front : Bytes) (i : InputSaid) (is : List InputSaid) (l : LimitSaid) (ls : List LimitSaid) (x : InputValue) (xs : List InputValue)
+    → all_took r front (i ∷ is) (l ∷ ls) (x ∷ xs) ≡ front ++ took_words r i l x ++ all_took r (and_words false) is ls xs
+took_next r front i is l ls x xs = refl

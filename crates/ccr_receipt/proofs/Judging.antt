@@ -13,12 +13,17 @@ use Rattle.ccr_receipt.specs.ReceiptText.{receipt_text}
 use Rattle.ccr_receipt.specs.Way.{is_succeeded}
 use Rattle.ccr_receipt.specs.Right.{IsChosen, IsReceipt}
 use Rattle.ccr_receipt.specs.Words.{receipt_words, told, is_accepted}
-use Rattle.ccr_receipt.specs.Judged.{IsSaidOf, IsReceiptJudged, IsRightReceipt, IsReceiptHeld}
+use Rattle.ccr_receipt.specs.Judged.{IsTextOf, IsSaidOf, IsReceiptJudged, IsRightReceipt, IsReceiptHeld}
+use Rattle.ccr_receipt.proofs.OneReceipt.{one_receipt}
 
 -- what a receipt says is said of its text
 pub is_said : (bs : Bytes) (r : ReceiptSaid) (out : Bytes × ℕ) → IsReceipt r → bs ≡ receipt_text r
     → out ≡ told r → IsReceiptJudged bs out
-is_said bs r out kept text says = inl (record { receipt = r; kept = kept; text = text; says = says })
+is_said bs r out kept text says = inl (record {
+  receipt = r;
+  is_text = record { kept = kept; text = text; only = λ other is e. one_receipt other r is kept (sym e ∙ text) };
+  says = says;
+})
 
 -- a refusal may be said
 pub is_refused : (bs : Bytes) (why : ReceiptFault) (out : Bytes × ℕ) → (why ≡ NoMemory → ⊥)
@@ -45,34 +50,32 @@ some_is (Some x) h = (x, refl)
 some_is None h = absurd (false≢true h)
 
 -- a receipt that is accepted is right
-right_receipt : (bs lines : Bytes) (r : ReceiptSaid) → IsReceipt r → bs ≡ receipt_text r → lines ≡ receipt_words r
+right_receipt : (bs lines : Bytes) (r : ReceiptSaid) → IsTextOf bs r → lines ≡ receipt_words r
     → is_accepted r ≡ true → IsRightReceipt bs lines
-right_receipt bs lines r kept text says accepted =
+right_receipt bs lines r is says accepted =
     let parts = and_parts (is_succeeded r.own.status) (is_some r.chosen) accepted in
     let chosen = some_is r.chosen parts.1 in
     let P : Option ChosenSaid → Type 0 = λ o. IsChosen r o in
     record {
       receipt = r;
-      kept = kept;
-      text = text;
+      is_text = is;
       succeeded = succeeded_is r.own.status parts.0;
       chosen = chosen.0;
       known = chosen.1;
-      right = subst P chosen.1 kept.chosen;
+      right = subst P chosen.1 is.kept.chosen;
       says = says;
     }
 
 accepted_text : (bs : Bytes) (out : Bytes × ℕ) → IsReceiptJudged bs out → out.1 ≡ 0 → IsRightReceipt bs out.0
 accepted_text bs out (inl s) zero =
-    right_receipt bs out.0 s.receipt s.kept s.text (ap (λ y. y.0) s.says)
+    right_receipt bs out.0 s.receipt s.is_text (ap (λ y. y.0) s.says)
     (zero_is (is_accepted s.receipt) (ap (λ y. y.1) (sym s.says) ∙ zero))
 accepted_text bs out (inr h) zero = let e : ◌≡◌ {A = ℕ} 1 0 = ap (λ y. y.1) (sym h.2) ∙ zero in absurd (omega arith)
 
 held_text : (bs : Bytes) (out : Bytes × ℕ) → IsReceiptJudged bs out → out.1 ≡ 3 → IsReceiptHeld bs out.0
 held_text bs out (inl s) three = record {
   receipt = s.receipt;
-  kept = s.kept;
-  text = s.text;
+  is_text = s.is_text;
   says = ap (λ y. y.0) s.says;
   less = three_is (is_accepted s.receipt) (ap (λ y. y.1) (sym s.says) ∙ three);
 }

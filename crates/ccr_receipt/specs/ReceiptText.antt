@@ -33,6 +33,7 @@ resource_line s = s.name ++ spaced s.scope ++ 32 ∷ s.kind ++ line_end
 abbrev pub version_line : VersionSaid → Bytes
 version_line v = decimal v.resource ++ spaced v.place ++ 32 ∷ v.version ++ line_end
 
+-- ` beyond`, behind the number of a gate that is not listed
 abbrev pub beyond_word : Bool → Bytes
 beyond_word beyond = if beyond then codes " beyond" else []
 
@@ -48,13 +49,21 @@ input_line i = i.name ++ spaced i.resource ++ spaced i.place ++ codes " jobs" ++
 abbrev pub pair_line : ℕ × ℕ → Bytes
 pair_line q = decimal q.0 ++ spaced q.1 ++ line_end
 
+-- ` asked` or ` seen`, the last word of a build's line
 abbrev pub plan_word : Bool → Bytes
 plan_word is_asked = if is_asked then codes " asked" else codes " seen"
 
+-- `JOB N made M`
+unfoldable pub made_words : BuildSaid → Bytes
+made_words b = b.job ++ spaced b.number ++ codes " made" ++ spaced b.made
+
+-- the rest of that line: ` STATUS asked`, or `seen`
+unfoldable pub ended_words : BuildSaid → Bytes
+ended_words b = 32 ∷ status_word b.status ++ plan_word b.is_asked ++ line_end
+
 -- `JOB N made M STATUS asked`, or `seen`
 abbrev pub build_line : BuildSaid → Bytes
-build_line b =
-    b.job ++ spaced b.number ++ codes " made" ++ spaced b.made ++ 32 ∷ status_word b.status ++ plan_word b.is_asked ++ line_end
+build_line b = made_words b ++ ended_words b
 
 -- `jobs N` with gates
 unfoldable pub gate_lines : List GateSaid → Bytes

@@ -3,6 +3,7 @@ use Rattle.std.specs.Prelude.{ℕ, List, [], ◌∷◌, ◌++◌, length, Bool, 
 use Rattle.std.specs.List.{list_any, list_all, ends_with}
 use Rattle.ccr_choice.specs.declared.problem.TheConstants.{MOST_PLACES}
 use Rattle.ccr_choice.specs.Ascending.{is_before}
+use Rattle.ccr_receipt.specs.declared.resource.TheConstants.{MOST_SCOPES}
 use Rattle.ccr_receipt.specs.Receipt.{Bytes, ResourceSaid, VersionSaid}
 
 -- ---- words
@@ -39,13 +40,19 @@ each_behind test before [] = true
 each_behind test before (x ∷ xs) = test before x && each_behind test (before ++ x ∷ []) xs
 
 -- ---- resources and versions
--- A resource has a name, a type, and a scope that none above it has.
+-- the number of a scope of a history
+abbrev pub is_scope : ℕ → Bool
+is_scope n = nat_lt 0 n && nat_le n MOST_SCOPES
+
+-- A resource has a name, a type, and a scope of a history that none above it has.
 unfoldable pub is_resource : List ResourceSaid → ResourceSaid → Bool
 is_resource above s =
-    is_name s.name && (is_name s.kind && (nat_lt 0 s.scope && not (list_any (λ t. t.scope == s.scope) above)))
+    is_name s.name
+    && (is_name s.kind && (is_scope s.scope && not (list_any (λ t. t.scope == s.scope) above)))
 
+-- There are no more resources than scopes.
 abbrev pub are_resources : List ResourceSaid → Bool
-are_resources ss = each_behind is_resource [] ss
+are_resources ss = nat_le (length ss) MOST_SCOPES && each_behind is_resource [] ss
 
 -- A version is of a resource of the receipt, at a place of it.
 unfoldable pub is_version_of : ℕ → VersionSaid → Bool

@@ -12,6 +12,7 @@ use Rattle.ccr_receipt.specs.Receipt.{Bytes, ResourceSaid, VersionSaid, GateSaid
 use Rattle.ccr_receipt.specs.Rules.{is_name, each_behind, has_version}
 
 -- ---- which build it is
+-- Only a build that succeeded passes anything.
 abbrev pub is_succeeded : Status → Bool
 is_succeeded Succeeded = true
 is_succeeded Failed = false
@@ -56,13 +57,14 @@ abbrev pub is_beyond : ReceiptSaid → GateSaid → Bool
 is_beyond r g =
     length r.before + 1 == MOST_LISTED && (not (list_any (is_named g) r.before) && not (is_named g r.own))
 
--- A gate is of a job that no gate of the build before it is of, and it was passed or is beyond.
+-- A gate has a build's number, is of a job that no gate of the build before it is of, and it was passed or is beyond.
 unfoldable pub is_gate : ReceiptSaid → List BuildSaid → List InputSaid → List GateSaid → GateSaid → Bool
 is_gate r above is earlier g =
     is_name g.job
-    && (not (list_any (λ f. bytes_eq f.job g.job) earlier)
-    && (if g.beyond then is_beyond r g else is_passed above is (length earlier) g))
+    && (nat_le g.number MOST_BUILDS && (not (list_any (λ f. bytes_eq f.job g.job) earlier)
+    && (if g.beyond then is_beyond r g else is_passed above is (length earlier) g)))
 
+-- A build has no more gates than a plan names jobs, and each is a gate behind those before it.
 abbrev pub are_gates : ReceiptSaid → List BuildSaid → BuildSaid → Bool
 are_gates r above b = nat_le (length b.gates) MOST_JOBS && each_behind (is_gate r above b.inputs) [] b.gates
 
@@ -80,6 +82,7 @@ are_first_named gates used [] = used == gates
 are_first_named gates used (i ∷ is) =
     are_numbered used i.gates && are_first_named gates (used_after used i.gates) is
 
+-- A build has no more inputs than a plan, each is one behind those before it, and they name its gates in their order.
 abbrev pub are_inputs : List VersionSaid → BuildSaid → Bool
 are_inputs vs b =
     nat_le (length b.inputs) MOST_INPUTS
@@ -104,6 +107,7 @@ stands_before r above b = is_succeeded b.status && stands r above b
 abbrev pub is_gate_of : BuildSaid → GateSaid → Bool
 is_gate_of e g = not g.beyond && is_named g e
 
+-- One of the later build's gates is this build.
 abbrev pub has_gate : BuildSaid → BuildSaid → Bool
 has_gate e b = list_any (is_gate_of e) b.gates
 

@@ -16,6 +16,7 @@ version_at [] resource place = []
 version_at (v ∷ vs) resource place =
     if v.resource == resource && v.place == place then v.version else version_at vs resource place
 
+-- the name of a resource, nothing where there is none
 abbrev pub resource_name : Option ResourceSaid → Bytes
 resource_name (Some s) = s.name
 resource_name None = []
@@ -24,6 +25,7 @@ resource_name None = []
 abbrev pub build_words : BuildSaid → Bytes
 build_words b = b.job ++ spaced b.number
 
+-- `JOB N`, nothing where there is no gate
 abbrev pub gate_name : Option GateSaid → Bytes
 gate_name (Some g) = g.job ++ spaced g.number
 gate_name None = []
@@ -43,41 +45,47 @@ gates_words front gs (j ∷ js) end = front ++ gate_words gs j ++ flat_map (next
 
 -- ---- what was taken
 -- `newest`, or how manieth of how many
-abbrev pub place_words : ℕ → ℕ → Bytes
+unfoldable pub place_words : ℕ → ℕ → Bytes
 place_words place known = if place == known then codes "newest" else decimal place ++ codes " of " ++ decimal known
 
+-- what stands before a pin
 unfoldable pub pinned_to : Bytes
 pinned_to = codes "; pinned to "
 
+-- `; pinned to PIN`
 abbrev pub pinned_words : Bytes → Bytes
 pinned_words pin = pinned_to ++ pin
 
 -- that the input takes one version after the other
-abbrev pub every_words : Option ℕ → Bytes
+unfoldable pub every_words : Option ℕ → Bytes
 every_words (Some kept) = codes "; every version in turn"
 every_words None = []
 
+-- `, P`
 abbrev pub next_place : ℕ → Bytes
 next_place n = codes ", " ++ decimal n
 
 -- `; without the disabled P, P`; nothing where there are none
-abbrev pub disabled_words : List ℕ → Bytes
+unfoldable pub disabled_words : List ℕ → Bytes
 disabled_words [] = []
 disabled_words (n ∷ ns) = codes "; without the disabled " ++ decimal n ++ flat_map next_place ns
 
 -- `INPUT VERSION`
-abbrev pub input_words : ReceiptSaid → InputSaid → Bytes
+unfoldable pub input_words : ReceiptSaid → InputSaid → Bytes
 input_words r i = i.name ++ 32 ∷ version_at r.versions i.resource i.place
 
 -- `; passed JOB N, JOB N`
-abbrev pub passed_words : ReceiptSaid → InputSaid → Bytes
+unfoldable pub passed_words : ReceiptSaid → InputSaid → Bytes
 passed_words r i = gates_words (codes "; passed ") r.own.gates i.gates []
 
+-- `PLACE of KNOWN; pinned to PIN; every version in turn; without the disabled P`
+unfoldable pub held_to_words : InputSaid → LimitSaid → InputValue → Bytes
+held_to_words i l x =
+    place_words i.place l.known ++ flat_map pinned_words l.pins ++ every_words x.after ++ disabled_words l.disabled
+
 -- `INPUT VERSION (PLACE of KNOWN; pinned to PIN; every version in turn; without the disabled P; passed JOB N, ..)`
-abbrev pub took_words : ReceiptSaid → InputSaid → LimitSaid → InputValue → Bytes
-took_words r i l x =
-    input_words r i ++ codes " (" ++ place_words i.place l.known ++ flat_map pinned_words l.pins ++ every_words x.after
-    ++ disabled_words l.disabled ++ passed_words r i ++ codes ")"
+unfoldable pub took_words : ReceiptSaid → InputSaid → LimitSaid → InputValue → Bytes
+took_words r i l x = input_words r i ++ codes " (" ++ held_to_words i l x ++ passed_words r i ++ codes ")"
 
 -- what stands before an input: `and`, if it isn't the first
 abbrev pub and_words : Bool → Bytes
@@ -90,10 +98,11 @@ all_took r front (i ∷ is) [] xs = []
 all_took r front (i ∷ is) (l ∷ ls) [] = []
 all_took r front (i ∷ is) (l ∷ ls) (x ∷ xs) = front ++ took_words r i l x ++ all_took r (codes " and ") is ls xs
 
--- ` (moved before by JOB N, JOB N)`
+-- what stands before the builds that had moved a version
 unfoldable pub moved_before : Bytes
 moved_before = codes " (moved before by "
 
+-- ` (moved before by JOB N, JOB N)`; nothing where no gate had to be passed
 abbrev pub movers_words : ReceiptSaid → InputSaid → Bytes
 movers_words r i = gates_words moved_before r.own.gates i.gates (codes ")")
 
@@ -111,6 +120,7 @@ abbrev pub own_took : ReceiptSaid → Option ChosenSaid → Bytes
 own_took r (Some c) = all_took r [] r.own.inputs c.limits c.problem.inputs
 own_took r None = all_seen r [] r.own.inputs
 
+-- what was taken, or `nothing`
 abbrev pub taken_words : ReceiptSaid → Bytes
 taken_words r = if length r.own.inputs == 0 then codes "nothing" else own_took r r.chosen
 
@@ -131,6 +141,7 @@ put_words r front (q ∷ qs) =
     else front ++ resource_name (slice_get r.resources q.0) ++ 32 ∷ version_at r.versions q.0 q.1
     ++ put_words r (codes " and ") qs
 
+-- what the receipt's own build put
 abbrev pub own_put : ReceiptSaid → Bytes
 own_put r = put_words r (codes "; it put ") r.own.moved
 
@@ -184,25 +195,42 @@ seen_count_words n = if nat_lt 0 n then codes "; of " ++ decimal n ++ codes " it
 abbrev pub is_cut : BuildSaid → Bool
 is_cut b = list_any (λ g. g.beyond) b.gates
 
-abbrev pub cut_words : ReceiptSaid → Bytes
+-- `; cut`, if a gate of any build is beyond what is listed
+unfoldable pub cut_words : ReceiptSaid → Bytes
 cut_words r = if list_any is_cut r.before || is_cut r.own then codes "; cut" else []
 
+-- what stands before the builds
+unfoldable pub behind_it : Bytes
+behind_it = codes "; behind it "
+
+-- what stands before a pipeline's digest
 unfoldable pub the_pipeline : Bytes
 the_pipeline = codes "the pipeline "
 
+-- `the pipeline SHA256`
 abbrev pub known_words : ChosenSaid → Bytes
 known_words c = the_pipeline ++ c.pipeline
 
+-- by which pipeline it was chosen, if that is known
 abbrev pub pipeline_words : Option ChosenSaid → Bytes
 pipeline_words (Some c) = known_words c
 pipeline_words None = codes "a pipeline that isn't known"
 
+-- `build M of all, by the pipeline SHA256`
+unfoldable pub moment_words : ReceiptSaid → Bytes
+moment_words r = codes "build " ++ decimal r.own.made ++ codes " of all, by " ++ pipeline_words r.chosen
+
+-- `JOB N, JOB N and K more`
+unfoldable pub behind_words : List BuildSaid → Bytes
+behind_words bs = newest_words (drop (length bs - most_named) bs) ++ more_words (length bs)
+
+-- of how many of these builds the gates are only seen
+unfoldable pub unknown_words : List BuildSaid → Bytes
+unknown_words bs = seen_count_words (count_by (λ b. not b.is_asked) bs)
+
 -- `build M of all, by the pipeline SHA256; behind it JOB N, JOB N and K more`
 abbrev pub way_words : ReceiptSaid → Bytes
-way_words r =
-    codes "build " ++ decimal r.own.made ++ codes " of all, by " ++ pipeline_words r.chosen ++ codes "; behind it "
-    ++ newest_words (drop (length r.before - most_named) r.before) ++ more_words (length r.before)
-    ++ seen_count_words (count_by (λ b. not b.is_asked) r.before) ++ cut_words r
+way_words r = moment_words r ++ behind_it ++ behind_words r.before ++ unknown_words r.before ++ cut_words r
 
 -- ---- all three lines
 -- what a receipt alone can't know

@@ -1,8 +1,8 @@
 //! The second line that is said of a receipt: when its build was made, by which pipeline, and behind which builds.
 
-ghost use Rattle.std.specs.Prelude.{◌≡◌, ◌++◌, not, count_by, OnOk, string_bytes};
+ghost use Rattle.std.specs.Prelude.{◌≡◌, ◌++◌, ◌-◌, length, drop, not, count_by, OnOk, string_bytes};
 ghost use Rattle.std.specs.List.{list_any};
-ghost use Rattle.ccr_receipt.specs.Words.{newest_words, more_words, seen_count_words, is_cut, cut_words, the_pipeline, known_words, pipeline_words, way_words};
+ghost use Rattle.ccr_receipt.specs.Words.{newest_words, more_words, seen_count_words, is_cut, cut_words, most_named, behind_it, the_pipeline, known_words, pipeline_words, moment_words, behind_words, unknown_words, way_words};
 
 use crate::build::Build;
 use crate::chosen::Chosen;
@@ -68,6 +68,7 @@ fn are_cut(builds: &[Build]) -> bool
     builds.iter().any(|build| is_cut(build))
 }
 
+#[tactic(auto, unfolding(crate::specs::Words::cut_words))]
 fn put_cut(out: &mut String, receipt: &Receipt) -> Result<(), AllocError>
     ensures { OnOk result (string_bytes out.new ≡ string_bytes out.old ++ cut_words receipt.now) }
 {
@@ -101,16 +102,50 @@ fn put_pipeline(out: &mut String, chosen: &Option<Chosen>) -> Result<(), AllocEr
     }
 }
 
+#[tactic(auto, unfolding(crate::specs::Words::moment_words))]
+fn put_moment(out: &mut String, receipt: &Receipt) -> Result<(), AllocError>
+    ensures { OnOk result (string_bytes out.new ≡ string_bytes out.old ++ moment_words receipt.now) }
+{
+    write!(out, "build {} of all, by ", receipt.own.made)?;
+    put_pipeline(out, &receipt.chosen)
+}
+
+/// The last of these builds that are named.
+fn newest(builds: &[Build]) -> &[Build]
+    ensures { result.now ≡ drop (length builds.now - most_named) builds.now }
+{
+    &builds[builds.len().saturating_sub(MOST_NAMED)..]
+}
+
+#[tactic(auto, unfolding(crate::specs::Words::behind_words))]
+fn put_behind(out: &mut String, builds: &[Build]) -> Result<(), AllocError>
+    ensures { OnOk result (string_bytes out.new ≡ string_bytes out.old ++ behind_words builds.now) }
+{
+    put_newest(out, newest(builds))?;
+    put_more(out, builds.len())
+}
+
+#[tactic(auto, unfolding(crate::specs::Words::unknown_words))]
+fn put_unknown(out: &mut String, builds: &[Build]) -> Result<(), AllocError>
+    ensures { OnOk result (string_bytes out.new ≡ string_bytes out.old ++ unknown_words builds.now) }
+{
+    put_seen_count(out, seen_count(builds))
+}
+
+#[tactic(auto, unfolding(crate::specs::Words::behind_it))]
+fn behind_it() -> &'static str
+    ensures { result.now ≡ behind_it }
+{
+    "; behind it "
+}
+
 /// Adds when the build was made, by which pipeline, and behind which builds.
 pub(crate) fn put_way(out: &mut String, receipt: &Receipt) -> Result<(), AllocError>
     ensures { OnOk result (string_bytes out.new ≡ string_bytes out.old ++ way_words receipt.now) }
 {
-    let before: &[Build] = &receipt.before;
-    write!(out, "build {} of all, by ", receipt.own.made)?;
-    put_pipeline(out, &receipt.chosen)?;
-    out.push_str("; behind it ")?;
-    put_newest(out, &before[before.len().saturating_sub(MOST_NAMED)..])?;
-    put_more(out, before.len())?;
-    put_seen_count(out, seen_count(before))?;
+    put_moment(out, receipt)?;
+    out.push_str(behind_it())?;
+    put_behind(out, &receipt.before)?;
+    put_unknown(out, &receipt.before)?;
     put_cut(out, receipt)
 }

@@ -59,7 +59,7 @@ pub use input::Input;
 pub use judge::judge_receipt;
 pub use limit::{Limit, Pin};
 pub use receipt::{MOST_LISTED, Receipt};
-pub use resource::Resource;
+pub use resource::{MOST_SCOPES, Resource};
 pub use status::Status;
 pub use version::Version;
 pub use whole::read_receipt;

@@ -12,7 +12,7 @@ use crate::input::Input;
 use crate::name::is_name;
 use crate::receipt::{MOST_LISTED, Receipt};
 use crate::status::Status;
-use ccr_choice::MOST_JOBS;
+use ccr_choice::{MOST_BUILDS, MOST_JOBS};
 
 /// Whether a status is that of a build that others may take from.
 pub(crate) fn is_succeeded(status: Status) -> bool
@@ -99,7 +99,7 @@ fn has_job(gates: &[Gate], job: &str) -> bool
         .any(|gate| gate.job.as_bytes() == job.as_bytes())
 }
 
-/// Whether a gate is of a job that none before it is of, and was passed or is beyond.
+/// Whether a gate has a build's number, is of a job that none before it is of, and was passed or is beyond.
 #[tactic(auto, unfolding(crate::specs::Way::is_gate))]
 fn is_gate(
     receipt: &Receipt,
@@ -110,7 +110,10 @@ fn is_gate(
 ) -> bool
     ensures { result ≡ is_gate receipt.now above.now inputs.now earlier.now gate.now }
 {
-    if !is_name(gate.job.as_bytes()) || has_job(earlier, gate.job.as_str()) {
+    if !is_name(gate.job.as_bytes()) || gate.number > MOST_BUILDS {
+        return false;
+    }
+    if has_job(earlier, gate.job.as_str()) {
         return false;
     }
     if gate.beyond {

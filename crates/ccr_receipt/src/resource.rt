@@ -2,6 +2,9 @@
 
 use std::marker::Model;
 
+/// How many scopes a history has at the most.
+pub const MOST_SCOPES: u32 = 1_000_000;
+
 /// A resource: its name, the number that the history has for its scope, and its type. Names are words of the text, as
 /// they stand there.
 #[derive(Drop)]

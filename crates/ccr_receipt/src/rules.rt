@@ -1,12 +1,12 @@
 //! Resources and versions: whether they keep the rules.
 
-ghost use Rattle.std.specs.Prelude.{◌≡◌, ◌==◌, not, is_some};
+ghost use Rattle.std.specs.Prelude.{◌≡◌, ◌==◌, [], not, is_some};
 ghost use Rattle.std.specs.List.{list_any};
-ghost use Rattle.ccr_receipt.specs.Rules.{is_resource, are_resources, is_version_of, are_versions, has_version};
+ghost use Rattle.ccr_receipt.specs.Rules.{each_behind, is_scope, is_resource, are_resources, is_version_of, are_versions, has_version};
 ghost use Rattle.ccr_choice.specs.Ascending.{is_before};
 
 use crate::name::{is_name, is_version};
-use crate::resource::Resource;
+use crate::resource::{MOST_SCOPES, Resource};
 use crate::version::Version;
 use ccr_choice::MOST_PLACES;
 
@@ -16,6 +16,13 @@ fn has_scope(resources: &[Resource], scope: u32) -> bool
     resources.iter().any(|other| other.scope == scope)
 }
 
+/// Whether this is the number of a scope of a history.
+fn is_scope(number: u32) -> bool
+    ensures { result ≡ is_scope number }
+{
+    0 < number && number <= MOST_SCOPES
+}
+
 /// Whether a resource has a name, a type, and a scope that none above it has.
 #[tactic(auto, unfolding(crate::specs::Rules::is_resource))]
 fn is_resource(above: &[Resource], resource: &Resource) -> bool
@@ -23,13 +30,13 @@ fn is_resource(above: &[Resource], resource: &Resource) -> bool
 {
     is_name(resource.name.as_bytes())
         && is_name(resource.kind.as_bytes())
-        && 0 < resource.scope
+        && is_scope(resource.scope)
         && !has_scope(above, resource.scope)
 }
 
-/// The first resource that breaks a rule.
-pub(crate) fn bad_resource(resources: &[Resource]) -> Option<usize>
-    ensures { is_some result ≡ not (are_resources resources.now) }
+/// The first resource that breaks a rule behind those above it.
+fn bad_among(resources: &[Resource]) -> Option<usize>
+    ensures { is_some result ≡ not (each_behind is_resource [] resources.now) }
 {
     for k in 0..resources.len() {
         if !is_resource(&resources[..k], &resources[k]) {
@@ -37,6 +44,16 @@ pub(crate) fn bad_resource(resources: &[Resource]) -> Option<usize>
         }
     }
     None
+}
+
+/// The first resource that breaks a rule, or the first that is too many.
+pub(crate) fn bad_resource(resources: &[Resource]) -> Option<usize>
+    ensures { is_some result ≡ not (are_resources resources.now) }
+{
+    if resources.len() > MOST_SCOPES as usize {
+        return Some(MOST_SCOPES as usize);
+    }
+    bad_among(resources)
 }
 
 /// Whether a version is of a resource of the receipt, at a place of it.

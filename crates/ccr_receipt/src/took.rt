@@ -2,7 +2,7 @@
 
 ghost use Rattle.std.specs.Prelude.{◌≡◌, ◌++◌, [], OnOk, string_bytes};
 ghost use Rattle.std.specs.List.{flat_map};
-ghost use Rattle.ccr_receipt.specs.Words.{place_words, pinned_to, moved_before, pinned_words, every_words, next_place, disabled_words, input_words, passed_words, movers_words, took_words, and_words, all_took, seen_words, all_seen, taken_words};
+ghost use Rattle.ccr_receipt.specs.Words.{place_words, pinned_to, moved_before, pinned_words, every_words, next_place, disabled_words, input_words, passed_words, movers_words, held_to_words, took_words, and_words, all_took, seen_words, all_seen, taken_words};
 
 use crate::input::Input;
 use crate::limit::{Limit, Pin};
@@ -10,6 +10,7 @@ use crate::named::{put_gates, put_version};
 use crate::receipt::Receipt;
 use std::alloc::AllocError;
 
+#[tactic(auto, unfolding(crate::specs::Words::place_words))]
 fn put_place(out: &mut String, place: u32, known: u32) -> Result<(), AllocError>
     ensures { OnOk result (string_bytes out.new ≡ string_bytes out.old ++ place_words place known) }
 {
@@ -52,6 +53,7 @@ fn put_pinned(out: &mut String, pins: &[Pin]) -> Result<(), AllocError>
     Ok(())
 }
 
+#[tactic(auto, unfolding(crate::specs::Words::every_words))]
 fn put_every(out: &mut String, after: Option<u32>) -> Result<(), AllocError>
     ensures { OnOk result (string_bytes out.new ≡ string_bytes out.old ++ every_words after) }
 {
@@ -61,6 +63,7 @@ fn put_every(out: &mut String, after: Option<u32>) -> Result<(), AllocError>
     }
 }
 
+#[tactic(auto, unfolding(crate::specs::Words::disabled_words))]
 fn put_disabled(out: &mut String, places: &[u32]) -> Result<(), AllocError>
     ensures { OnOk result (string_bytes out.new ≡ string_bytes out.old ++ disabled_words places.now) }
 {
@@ -76,6 +79,7 @@ fn put_disabled(out: &mut String, places: &[u32]) -> Result<(), AllocError>
     Ok(())
 }
 
+#[tactic(auto, unfolding(crate::specs::Words::input_words))]
 fn put_input(out: &mut String, receipt: &Receipt, input: &Input) -> Result<(), AllocError>
     ensures { OnOk result (string_bytes out.new ≡ string_bytes out.old ++ input_words receipt.now input.now) }
 {
@@ -84,6 +88,7 @@ fn put_input(out: &mut String, receipt: &Receipt, input: &Input) -> Result<(), A
     put_version(out, &receipt.versions, input.resource, input.place)
 }
 
+#[tactic(auto, unfolding(crate::specs::Words::passed_words))]
 fn put_passed(out: &mut String, receipt: &Receipt, input: &Input) -> Result<(), AllocError>
     ensures { OnOk result (string_bytes out.new ≡ string_bytes out.old ++ passed_words receipt.now input.now) }
 {
@@ -96,7 +101,24 @@ fn put_movers(out: &mut String, receipt: &Receipt, input: &Input) -> Result<(), 
     put_gates(out, moved_before(), &receipt.own.gates, &input.gates, ")")
 }
 
+#[tactic(auto, unfolding(crate::specs::Words::held_to_words))]
+fn put_held_to(
+    out: &mut String,
+    input: &Input,
+    limit: &Limit,
+    choices: &ccr_choice::Input,
+) -> Result<(), AllocError>
+    ensures { OnOk result (string_bytes out.new
+        ≡ string_bytes out.old ++ held_to_words input.now limit.now choices.now) }
+{
+    put_place(out, input.place, limit.known)?;
+    put_pinned(out, &limit.pins)?;
+    put_every(out, choices.after())?;
+    put_disabled(out, &limit.disabled)
+}
+
 /// Adds what was taken for an input, and why.
+#[tactic(auto, unfolding(crate::specs::Words::took_words))]
 fn put_took(
     out: &mut String,
     receipt: &Receipt,
@@ -109,10 +131,7 @@ fn put_took(
 {
     put_input(out, receipt, input)?;
     out.push_str(" (")?;
-    put_place(out, input.place, limit.known)?;
-    put_pinned(out, &limit.pins)?;
-    put_every(out, choices.after())?;
-    put_disabled(out, &limit.disabled)?;
+    put_held_to(out, input, limit, choices)?;
     put_passed(out, receipt, input)?;
     out.push_str(")")
 }
@@ -127,31 +146,26 @@ fn put_and(out: &mut String, is_first: bool) -> Result<(), AllocError>
     }
 }
 
-#[tactic(auto, using(crate::proofs::Ending::took_none, crate::proofs::Ending::took_unheld, crate::proofs::Ending::took_end))]
+#[tactic(auto, using(crate::proofs::Ending::took_none, crate::proofs::Ending::took_unheld, crate::proofs::Ending::took_end, crate::proofs::Ending::took_next))]
 fn put_all(
     out: &mut String,
     receipt: &Receipt,
+    is_first: bool,
+    inputs: &[Input],
     limits: &[Limit],
     choices: &[ccr_choice::Input],
 ) -> Result<(), AllocError>
     ensures { OnOk result (string_bytes out.new
-        ≡ string_bytes out.old ++ all_took receipt.now [] receipt.now.own.inputs limits.now choices.now) }
+        ≡ string_bytes out.old ++ all_took receipt.now (and_words is_first) inputs.now limits.now choices.now) }
 {
-    let mut is_first = true;
-    let mut rest: &[Input] = &receipt.own.inputs;
-    let mut held = limits;
-    let mut left = choices;
-    while let ([input, others @ ..], [limit, more @ ..], [choice, further @ ..]) = (
-        rest, held, left,
-    ) {
-        put_and(out, is_first)?;
-        put_took(out, receipt, input, limit, choice)?;
-        is_first = false;
-        rest = others;
-        held = more;
-        left = further;
+    match (inputs, limits, choices) {
+        ([input, others @ ..], [limit, more @ ..], [choice, further @ ..]) => {
+            put_and(out, is_first)?;
+            put_took(out, receipt, input, limit, choice)?;
+            put_all(out, receipt, false, others, more, further)
+        }
+        _ => Ok(()),
     }
-    Ok(())
 }
 
 /// Adds what was taken for an input, and who had moved it before.
@@ -184,7 +198,14 @@ pub(crate) fn put_taken(out: &mut String, receipt: &Receipt) -> Result<(), Alloc
         return out.push_str("nothing");
     }
     match &receipt.chosen {
-        Some(chosen) => put_all(out, receipt, &chosen.limits, chosen.problem.inputs()),
+        Some(chosen) => put_all(
+            out,
+            receipt,
+            true,
+            &receipt.own.inputs,
+            &chosen.limits,
+            chosen.problem.inputs(),
+        ),
         None => put_all_seen(out, receipt),
     }
 }

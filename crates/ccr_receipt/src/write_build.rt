@@ -2,7 +2,7 @@
 
 ghost use Rattle.std.specs.Prelude.{◌≡◌, ◌++◌, OnOk, string_bytes};
 ghost use Rattle.std.specs.List.{flat_map};
-ghost use Rattle.ccr_receipt.specs.ReceiptText.{beyond_word, plan_word, gate_line, input_line, pair_line, build_line, gate_lines, input_lines, moved_lines, build_lines};
+ghost use Rattle.ccr_receipt.specs.ReceiptText.{beyond_word, plan_word, made_words, ended_words, gate_line, input_line, pair_line, build_line, gate_lines, input_lines, moved_lines, build_lines};
 
 use crate::build::Build;
 use crate::gate::Gate;
@@ -87,14 +87,29 @@ fn put_moved(out: &mut String, moved: &[(u32, u32)]) -> Result<(), AllocError>
     Ok(())
 }
 
-fn put_line(out: &mut String, build: &Build) -> Result<(), AllocError>
-    ensures { OnOk result (string_bytes out.new ≡ string_bytes out.old ++ build_line build.now) }
+#[tactic(auto, unfolding(crate::specs::ReceiptText::made_words))]
+fn put_made(out: &mut String, build: &Build) -> Result<(), AllocError>
+    ensures { OnOk result (string_bytes out.new ≡ string_bytes out.old ++ made_words build.now) }
 {
     out.push_str(build.job.as_str())?;
-    write!(out, " {} made {} ", build.number, build.made)?;
+    write!(out, " {} made {}", build.number, build.made)
+}
+
+#[tactic(auto, unfolding(crate::specs::ReceiptText::ended_words))]
+fn put_ended(out: &mut String, build: &Build) -> Result<(), AllocError>
+    ensures { OnOk result (string_bytes out.new ≡ string_bytes out.old ++ ended_words build.now) }
+{
+    out.push_str(" ")?;
     out.push_str(build.status.word())?;
     put_plan(out, build.is_asked)?;
     out.push_str("\n")
+}
+
+fn put_line(out: &mut String, build: &Build) -> Result<(), AllocError>
+    ensures { OnOk result (string_bytes out.new ≡ string_bytes out.old ++ build_line build.now) }
+{
+    put_made(out, build)?;
+    put_ended(out, build)
 }
 
 #[tactic(auto, unfolding(crate::specs::ReceiptText::gate_lines))]

@@ -2,7 +2,7 @@ use Rattle.std.proofs.Common.{◌≡◌, [], true, false, take, arith}
 use Rattle.std.proofs.lemmas.Grind.{common_steps}
 use Rattle.ccr_receipt.specs.Rules.{each_behind, is_resource}
 use Rattle.ccr_receipt.proofs.Behind.{behind_next, behind_stops, behind_ends}
-use Rattle.ccr_receipt.proofs.rules.bad_resource.Goals as goal
+use Rattle.ccr_receipt.proofs.rules.bad_among.Goals as goal
 
 pub loop-k-preserved : goal.loop-k-preserved
 loop-k-preserved c =
