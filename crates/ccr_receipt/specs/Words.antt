@@ -212,13 +212,17 @@ abbrev pub known_words : ChosenSaid → Bytes
 known_words c = the_pipeline ++ c.pipeline
 
 -- by which pipeline it was chosen, if that is known
-abbrev pub pipeline_words : Option ChosenSaid → Bytes
+unfoldable pub pipeline_words : Option ChosenSaid → Bytes
 pipeline_words (Some c) = known_words c
 pipeline_words None = codes "a pipeline that isn't known"
 
+-- `build M of all, by `
+unfoldable pub birth_words : ℕ → Bytes
+birth_words made = codes "build " ++ decimal made ++ codes " of all, by "
+
 -- `build M of all, by the pipeline SHA256`
 unfoldable pub moment_words : ReceiptSaid → Bytes
-moment_words r = codes "build " ++ decimal r.own.made ++ codes " of all, by " ++ pipeline_words r.chosen
+moment_words r = birth_words r.own.made ++ pipeline_words r.chosen
 
 -- `JOB N, JOB N and K more`
 unfoldable pub behind_words : List BuildSaid → Bytes

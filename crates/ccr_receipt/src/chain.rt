@@ -2,7 +2,7 @@
 
 ghost use Rattle.std.specs.Prelude.{◌≡◌, ◌++◌, ◌-◌, length, drop, not, count_by, OnOk, string_bytes};
 ghost use Rattle.std.specs.List.{list_any};
-ghost use Rattle.ccr_receipt.specs.Words.{newest_words, more_words, seen_count_words, is_cut, cut_words, most_named, behind_it, the_pipeline, known_words, pipeline_words, moment_words, behind_words, unknown_words, way_words};
+ghost use Rattle.ccr_receipt.specs.Words.{newest_words, more_words, seen_count_words, is_cut, cut_words, most_named, behind_it, the_pipeline, known_words, pipeline_words, birth_words, moment_words, behind_words, unknown_words, way_words};
 
 use crate::build::Build;
 use crate::chosen::Chosen;
@@ -93,6 +93,7 @@ fn put_known(out: &mut String, chosen: &Chosen) -> Result<(), AllocError>
     out.push_str(chosen.pipeline.as_str())
 }
 
+#[tactic(auto, unfolding(crate::specs::Words::pipeline_words))]
 fn put_pipeline(out: &mut String, chosen: &Option<Chosen>) -> Result<(), AllocError>
     ensures { OnOk result (string_bytes out.new ≡ string_bytes out.old ++ pipeline_words chosen.now) }
 {
@@ -102,11 +103,18 @@ fn put_pipeline(out: &mut String, chosen: &Option<Chosen>) -> Result<(), AllocEr
     }
 }
 
+#[tactic(auto, unfolding(crate::specs::Words::birth_words))]
+fn put_birth(out: &mut String, made: u32) -> Result<(), AllocError>
+    ensures { OnOk result (string_bytes out.new ≡ string_bytes out.old ++ birth_words made) }
+{
+    write!(out, "build {made} of all, by ")
+}
+
 #[tactic(auto, unfolding(crate::specs::Words::moment_words))]
 fn put_moment(out: &mut String, receipt: &Receipt) -> Result<(), AllocError>
     ensures { OnOk result (string_bytes out.new ≡ string_bytes out.old ++ moment_words receipt.now) }
 {
-    write!(out, "build {} of all, by ", receipt.own.made)?;
+    put_birth(out, receipt.own.made)?;
     put_pipeline(out, &receipt.chosen)
 }
 
