@@ -151,16 +151,16 @@ pub lines_cut : {A : Type 0} (line : A → List ℕ) (Is : A → Type 0) (test :
     → ((x y : A) (s t : List ℕ) → Is x → Is y → line x ++ s ≡ line y ++ t → (x ≡ y) × (s ≡ t))
     → (xs ys : List A) (s t : List ℕ) → AllByRecursion Is xs → AllByRecursion Is ys → IsNotFirst test s → IsNotFirst test t
     → flat_map line xs ++ s ≡ flat_map line ys ++ t → (xs ≡ ys) × (s ≡ t)
-lines_cut line Is test begins one [] [] s t is is' no no' e = (refl, e)
-lines_cut line Is test begins one [] (y ∷ ys) s t is is' no no' e =
-    absurd (false≢true (sym no ∙ ap (λ x. test (get_or x 0 0)) (e ∙ append_assoc (line y) (flat_map line ys) t) ∙ begins y (flat_map line ys ++ t) is'.0))
-lines_cut line Is test begins one (x ∷ xs) [] s t is is' no no' e =
-    absurd (false≢true (sym no' ∙ ap (λ x. test (get_or x 0 0)) (sym e ∙ append_assoc (line x) (flat_map line xs) s) ∙ begins x (flat_map line xs ++ s) is.0))
-lines_cut line Is test begins one (x ∷ xs) (y ∷ ys) s t is is' no no' e =
+lines_cut line Is test begins one [] [] s t is is' apart apart' e = (refl, e)
+lines_cut line Is test begins one [] (y ∷ ys) s t is is' apart apart' e =
+    absurd (false≢true (sym apart ∙ ap (λ x. test (get_or x 0 0)) (e ∙ append_assoc (line y) (flat_map line ys) t) ∙ begins y (flat_map line ys ++ t) is'.0))
+lines_cut line Is test begins one (x ∷ xs) [] s t is is' apart apart' e =
+    absurd (false≢true (sym apart' ∙ ap (λ x. test (get_or x 0 0)) (sym e ∙ append_assoc (line x) (flat_map line xs) s) ∙ begins x (flat_map line xs ++ s) is.0))
+lines_cut line Is test begins one (x ∷ xs) (y ∷ ys) s t is is' apart apart' e =
     let h : line x ++ (flat_map line xs ++ s) ≡ line y ++ (flat_map line ys ++ t) =
     sym (append_assoc (line x) (flat_map line xs) s) ∙ e ∙ append_assoc (line y) (flat_map line ys) t in
     let r = one x y (flat_map line xs ++ s) (flat_map line ys ++ t) is.0 is'.0 h in
-    let q = lines_cut line Is test begins one xs ys s t is.1 is'.1 no no' r.1 in
+    let q = lines_cut line Is test begins one xs ys s t is.1 is'.1 apart apart' r.1 in
     (ap₂ (λ a b. a ∷ b) r.0 q.0, q.1)
 
 -- the line that counts them
@@ -170,6 +170,19 @@ count_cut word m n s t e =
     let h : word ++ (spaced m ++ 10 ∷ s) ≡ word ++ (spaced n ++ 10 ∷ t) = sym (shape m s) ∙ e ∙ shape n t in
     let g : decimal m ++ 10 ∷ s ≡ decimal n ++ 10 ∷ t = cc (append_cancel_left word (spaced m ++ 10 ∷ s) (spaced n ++ 10 ∷ t) h) in
     (word_at 10 (decimal m) (decimal n) s t (lit≤ tt) (number_word m) (number_word n) g).1
+
+-- ---- parts one after the other
+pub three_parts : (a b c s : List ℕ) → ((a ++ b) ++ c) ++ s ≡ a ++ (b ++ (c ++ s))
+three_parts a b c s = append_assoc (a ++ b) c s ∙ append_assoc a b (c ++ s)
+
+pub four_parts : (a b c d s : List ℕ) → (((a ++ b) ++ c) ++ d) ++ s ≡ a ++ (b ++ (c ++ (d ++ s)))
+four_parts a b c d s = append_assoc ((a ++ b) ++ c) d s ∙ three_parts a b c (d ++ s)
+
+pub six_parts : (a b c d e f s : List ℕ)
+    → (((((a ++ b) ++ c) ++ d) ++ e) ++ f) ++ s ≡ a ++ (b ++ (c ++ (d ++ (e ++ (f ++ s)))))
+six_parts a b c d e f s =
+    append_assoc ((((a ++ b) ++ c) ++ d) ++ e) f s ∙ append_assoc (((a ++ b) ++ c) ++ d) e (f ++ s)
+    ∙ four_parts a b c d (e ++ (f ++ s))
 
 -- ---- two ends of one length
 pub ends_cut : (xs ys s t : List ℕ) → length s ≡ length t → xs ++ s ≡ ys ++ t → xs ≡ ys

@@ -10,7 +10,7 @@ use Rattle.ccr_receipt.specs.declared.status.Status.TheVariants.{Succeeded, Fail
 use Rattle.ccr_receipt.specs.Receipt.{Bytes, ResourceSaid, VersionSaid, GateSaid, InputSaid, BuildSaid, LimitSaid}
 use Rattle.ccr_receipt.specs.ReceiptText.{status_word, line_end, beyond_word, plan_word, pin_word, count_line, resource_line, version_line, gate_line, input_line, pair_line, made_words, ended_words, build_line, gate_lines, input_lines, moved_lines, build_lines, limit_line}
 use Rattle.ccr_receipt.specs.Rules.{is_closed, is_name, is_version, is_hex, is_digest}
-use Rattle.ccr_receipt.proofs.Cutting.{IsWord, IsSmall, IsFirst, IsNotFirst, is_digit, word_cut, word_at, number_word, number_first, number_cut, number_at, numbers_cut, first_append, lines_cut, count_cut}
+use Rattle.ccr_receipt.proofs.Cutting.{IsWord, IsSmall, IsFirst, IsNotFirst, is_digit, word_cut, word_at, number_word, number_first, number_cut, number_at, numbers_cut, first_append, lines_cut, count_cut, three_parts, four_parts, six_parts}
 
 -- ---- names, versions and digests are words
 closed_step : (b : Bool) (c : ℕ) (cs : List ℕ) (more : Bool) → (b ≡ true → c ≡ 34) → (more ≡ true → IsWord cs)
@@ -188,7 +188,7 @@ abbrev jobs_rest : InputSaid → Bytes → Bytes
 jobs_rest i s = codes "jobs" ++ (flat_map spaced i.gates ++ 10 ∷ s)
 
 input_shape : (i : InputSaid) (s : Bytes) → input_line i ++ s ≡ i.name ++ 32 ∷ (decimal i.resource ++ 32 ∷ (decimal i.place ++ 32 ∷ jobs_rest i s))
-input_shape i s = simp append_assoc
+input_shape i s = six_parts i.name (spaced i.resource) (spaced i.place) (codes " jobs") (flat_map spaced i.gates) line_end s
 
 input_same : (a b : InputSaid) → a.name ≡ b.name → a.resource ≡ b.resource → a.place ≡ b.place → a.gates ≡ b.gates → a ≡ b
 input_same a b e f g h =
@@ -279,7 +279,11 @@ made_rest b s = codes "made" ++ 32 ∷ (decimal b.made ++ 32 ∷ ended_rest b s)
 
 line_shape : (b : BuildSaid) (s : Bytes) → build_line b ++ s ≡ b.job ++ 32 ∷ (decimal b.number ++ 32 ∷ made_rest b s)
 unfolding made_words ended_words
-line_shape b s = rw (plan_is b.is_asked) (simp append_assoc)
+line_shape b s =
+    append_assoc (made_words b) (ended_words b) s
+    ∙ ap (λ x. made_words b ++ x) (three_parts (32 ∷ status_word b.status) (plan_word b.is_asked) line_end s
+    ∙ ap (λ p. 32 ∷ (status_word b.status ++ (p ++ 10 ∷ s))) (plan_is b.is_asked))
+    ∙ four_parts b.job (spaced b.number) (codes " made") (spaced b.made) (32 ∷ ended_rest b s)
 
 -- all that a build's line says
 record IsSameLine (a b : BuildSaid) : Type 0 where
@@ -321,25 +325,25 @@ line_cut a b s t p q e =
 gates_cut : (gs hs : List GateSaid) (s t : Bytes) → AllByRecursion IsGateSpelled gs → AllByRecursion IsGateSpelled hs
     → IsNotFirst is_quote s → IsNotFirst is_quote t → gate_lines gs ++ s ≡ gate_lines hs ++ t → (gs ≡ hs) × (s ≡ t)
 unfolding gate_lines
-gates_cut gs hs s t p q no no' e =
+gates_cut gs hs s t p q apart apart' e =
     let h = sym (append_assoc (count_line (codes "jobs") (length gs)) (flat_map gate_line gs) s) ∙ e ∙ append_assoc (count_line (codes "jobs") (length hs)) (flat_map gate_line hs) t in
-    lines_cut gate_line IsGateSpelled is_quote gate_first gate_cut gs hs s t p q no no'
+    lines_cut gate_line IsGateSpelled is_quote gate_first gate_cut gs hs s t p q apart apart'
     (count_cut (codes "jobs") (length gs) (length hs) (flat_map gate_line gs ++ s) (flat_map gate_line hs ++ t) h)
 
 inputs_cut : (is js : List InputSaid) (s t : Bytes) → AllByRecursion IsInputSpelled is → AllByRecursion IsInputSpelled js
     → IsNotFirst is_quote s → IsNotFirst is_quote t → input_lines is ++ s ≡ input_lines js ++ t → (is ≡ js) × (s ≡ t)
 unfolding input_lines
-inputs_cut is js s t p q no no' e =
+inputs_cut is js s t p q apart apart' e =
     let h = sym (append_assoc (count_line (codes "inputs") (length is)) (flat_map input_line is) s) ∙ e ∙ append_assoc (count_line (codes "inputs") (length js)) (flat_map input_line js) t in
-    lines_cut input_line IsInputSpelled is_quote input_first input_cut is js s t p q no no'
+    lines_cut input_line IsInputSpelled is_quote input_first input_cut is js s t p q apart apart'
     (count_cut (codes "inputs") (length is) (length js) (flat_map input_line is ++ s) (flat_map input_line js ++ t) h)
 
 moved_cut : (ps qs : List (ℕ × ℕ)) (s t : Bytes) → AllByRecursion IsPairSpelled ps → AllByRecursion IsPairSpelled qs
     → IsNotFirst is_digit s → IsNotFirst is_digit t → moved_lines ps ++ s ≡ moved_lines qs ++ t → (ps ≡ qs) × (s ≡ t)
 unfolding moved_lines
-moved_cut ps qs s t p q no no' e =
+moved_cut ps qs s t p q apart apart' e =
     let h = sym (append_assoc (count_line (codes "moved") (length ps)) (flat_map pair_line ps) s) ∙ e ∙ append_assoc (count_line (codes "moved") (length qs)) (flat_map pair_line qs) t in
-    lines_cut pair_line IsPairSpelled is_digit pair_first pair_cut ps qs s t p q no no'
+    lines_cut pair_line IsPairSpelled is_digit pair_first pair_cut ps qs s t p q apart apart'
     (count_cut (codes "moved") (length ps) (length qs) (flat_map pair_line ps ++ s) (flat_map pair_line qs ++ t) h)
 
 inputs_begin : (is : List InputSaid) (s : Bytes) → IsNotFirst is_quote (input_lines is ++ s)
@@ -374,12 +378,12 @@ build_same a b l e f g =
 -- before something that is neither a name nor a number
 pub build_cut : (a b : BuildSaid) (s t : Bytes) → IsBuildSpelled a → IsBuildSpelled b → IsNotFirst is_digit s → IsNotFirst is_digit t
     → build_lines a ++ s ≡ build_lines b ++ t → (a ≡ b) × (s ≡ t)
-build_cut a b s t p q no no' e =
+build_cut a b s t p q apart apart' e =
     let h = sym (build_shape a s) ∙ e ∙ build_shape b t in
     let l = line_cut a b (gate_lines a.gates ++ (input_lines a.inputs ++ (moved_lines a.moved ++ s))) (gate_lines b.gates ++ (input_lines b.inputs ++ (moved_lines b.moved ++ t))) p q h in
     let g = gates_cut a.gates b.gates (input_lines a.inputs ++ (moved_lines a.moved ++ s)) (input_lines b.inputs ++ (moved_lines b.moved ++ t)) p.gates q.gates (inputs_begin a.inputs (moved_lines a.moved ++ s)) (inputs_begin b.inputs (moved_lines b.moved ++ t)) l.1 in
     let i = inputs_cut a.inputs b.inputs (moved_lines a.moved ++ s) (moved_lines b.moved ++ t) p.inputs q.inputs (moved_begin a.moved s) (moved_begin b.moved t) g.1 in
-    let m = moved_cut a.moved b.moved s t p.moved q.moved no no' i.1 in
+    let m = moved_cut a.moved b.moved s t p.moved q.moved apart apart' i.1 in
     (build_same a b l.0 g.0 i.0 m.0, m.1)
 
 pub build_first : (test : ℕ → Bool) (b : BuildSaid) (s : Bytes) → test 0 ≡ false → IsBuildSpelled b → IsFirst test b.job → IsFirst test (build_lines b ++ s)

@@ -9,6 +9,7 @@ use Rattle.std.proofs.lemmas.Bool.{and_parts, or_cases, false≢true, ltb-true, 
 use Rattle.hex.specs.Hex.{encode_with, lower_digits}
 use Rattle.sha2.specs.Sha256.{sha256}
 use Rattle.sha2.proofs.Facts256.{length-sha256}
+use Rattle.ccr_check.specs.Judged.{spaced}
 use Rattle.ccr_choice.specs.declared.problem.TheConstants.{MOST_PLACES, MOST_INPUTS, MOST_JOBS, MOST_BUILDS}
 use Rattle.ccr_choice.specs.Ascending.{is_before}
 use Rattle.ccr_choice.specs.Problem.{ProblemValue, IsProblem, are_numbered, used_after, next_used, are_distinct, are_places_after}
@@ -25,7 +26,7 @@ use Rattle.ccr_receipt.specs.Way.{is_succeeded, is_after, is_made, is_beyond, is
 use Rattle.ccr_receipt.specs.Choice.{own_places, own_builds, is_limit, are_limits, are_bound, are_alike, is_claim, is_tied, most_pins}
 use Rattle.ccr_receipt.specs.Right.{IsRightlyChosen, IsChosen, IsReceipt}
 use Rattle.ccr_receipt.proofs.Checking.{claim_is, claim_tied}
-use Rattle.ccr_receipt.proofs.Cutting.{IsWord, IsSmall, IsFirst, IsNotFirst, is_digit, word_at, number_word, lines_cut, count_cut, ends_cut}
+use Rattle.ccr_receipt.proofs.Cutting.{IsWord, IsSmall, IsFirst, IsNotFirst, is_digit, word_at, number_word, lines_cut, count_cut, ends_cut, three_parts, four_parts}
 use Rattle.ccr_receipt.proofs.OneLine.{is_quote, is_known, name_word, name_first, IsResourceSpelled, resource_cut, resource_first, IsVersionSpelled, version_cut, version_first, IsGateSpelled, IsInputSpelled, IsPairSpelled, IsBuildSpelled, build_cut, build_first, IsLimitSpelled, limit_cut, limit_first}
 use Rattle.ccr_receipt.proofs.OneLine as line
 
@@ -201,8 +202,8 @@ limits_spelled (i ∷ is) (l ∷ ls) h =
 -- ---- lists of builds
 -- behind builds no number begins, where none begins what follows
 no_digit : (bs : List BuildSaid) (s : Bytes) → AllByRecursion IsBuildSpelled bs → IsNotFirst is_digit s → IsNotFirst is_digit (flat_map build_lines bs ++ s)
-no_digit [] s all no = no
-no_digit (b ∷ bs) s all no =
+no_digit [] s all apart = apart
+no_digit (b ∷ bs) s all apart =
     let shape = append_assoc (build_lines b) (flat_map build_lines bs) s in
     let quote = build_first is_quote b (flat_map build_lines bs ++ s) refl all.0 (name_first b.job all.0.job) in
     ap is_digit (ap (λ x. get_or x 0 0) shape ∙ eqb-true (get_or (build_lines b ++ (flat_map build_lines bs ++ s)) 0 0) 34 quote)
@@ -213,18 +214,18 @@ record IsAfterBuilds (s : Bytes) : Type 0 where
 
 builds_cut : (cs bs : List BuildSaid) (s t : Bytes) → AllByRecursion IsBuildSpelled cs → AllByRecursion IsBuildSpelled bs
     → IsAfterBuilds s → IsAfterBuilds t → flat_map build_lines cs ++ s ≡ flat_map build_lines bs ++ t → (cs ≡ bs) × (s ≡ t)
-builds_cut [] [] s t p q no no' e = (refl, e)
-builds_cut [] (b ∷ bs) s t p q no no' e =
+builds_cut [] [] s t p q apart apart' e = (refl, e)
+builds_cut [] (b ∷ bs) s t p q apart apart' e =
     let quote = build_first is_quote b (flat_map build_lines bs ++ t) refl q.0 (name_first b.job q.0.job) in
-    absurd (false≢true (sym no.quote ∙ ap (λ x. is_quote (get_or x 0 0)) (e ∙ append_assoc (build_lines b) (flat_map build_lines bs) t) ∙ quote))
-builds_cut (a ∷ cs) [] s t p q no no' e =
+    absurd (false≢true (sym apart.quote ∙ ap (λ x. is_quote (get_or x 0 0)) (e ∙ append_assoc (build_lines b) (flat_map build_lines bs) t) ∙ quote))
+builds_cut (a ∷ cs) [] s t p q apart apart' e =
     let quote = build_first is_quote a (flat_map build_lines cs ++ s) refl p.0 (name_first a.job p.0.job) in
-    absurd (false≢true (sym no'.quote ∙ ap (λ x. is_quote (get_or x 0 0)) (sym e ∙ append_assoc (build_lines a) (flat_map build_lines cs) s) ∙ quote))
-builds_cut (a ∷ cs) (b ∷ bs) s t p q no no' e =
+    absurd (false≢true (sym apart'.quote ∙ ap (λ x. is_quote (get_or x 0 0)) (sym e ∙ append_assoc (build_lines a) (flat_map build_lines cs) s) ∙ quote))
+builds_cut (a ∷ cs) (b ∷ bs) s t p q apart apart' e =
     let h : build_lines a ++ (flat_map build_lines cs ++ s) ≡ build_lines b ++ (flat_map build_lines bs ++ t) =
     sym (append_assoc (build_lines a) (flat_map build_lines cs) s) ∙ e ∙ append_assoc (build_lines b) (flat_map build_lines bs) t in
-    let r = build_cut a b (flat_map build_lines cs ++ s) (flat_map build_lines bs ++ t) p.0 q.0 (no_digit cs s p.1 no.digit) (no_digit bs t q.1 no'.digit) h in
-    let m = builds_cut cs bs s t p.1 q.1 no no' r.1 in
+    let r = build_cut a b (flat_map build_lines cs ++ s) (flat_map build_lines bs ++ t) p.0 q.0 (no_digit cs s p.1 apart.digit) (no_digit bs t q.1 apart'.digit) h in
+    let m = builds_cut cs bs s t p.1 q.1 apart apart' r.1 in
     (ap₂ (λ x y. x ∷ y) r.0 m.0, m.1)
 
 -- ---- the problem
@@ -404,19 +405,26 @@ body_shape r =
     ∙ ap (λ z. count ++ (flat_map resource_line r.resources ++ z)) (append_assoc numbers (flat_map version_line r.versions) (builds_on r)))
 
 -- the first three lines, and what follows
-head_shape : (r : ReceiptSaid) (s : Bytes)
-    → head_lines r ++ s ≡ codes "receipt 1" ++ 10 ∷ codes "of " ++ (r.own.job ++ 32 ∷ (decimal r.own.number ++ 10 ∷ codes "pipeline " ++ (pipeline_word r.chosen ++ 10 ∷ s)))
+abbrev pipeline_on : ReceiptSaid → Bytes → Bytes
+pipeline_on r s = codes "pipeline " ++ (pipeline_word r.chosen ++ 10 ∷ s)
+
+abbrev number_on : ReceiptSaid → Bytes → Bytes
+number_on r s = decimal r.own.number ++ 10 ∷ pipeline_on r s
+
+head_shape : (r : ReceiptSaid) (s : Bytes) → head_lines r ++ s ≡ format_line ++ (codes "of " ++ (r.own.job ++ 32 ∷ number_on r s))
 unfolding head_lines
-head_shape r s = simp append_assoc
+head_shape r s =
+    append_assoc (format_line ++ subject_line r.own) (pipeline_line r.chosen) s
+    ∙ append_assoc format_line (subject_line r.own) (pipeline_line r.chosen ++ s)
+    ∙ ap (λ x. format_line ++ x) (four_parts (codes "of ") r.own.job (spaced r.own.number) line_end (pipeline_line r.chosen ++ s)
+    ∙ ap (λ x. codes "of " ++ (r.own.job ++ 32 ∷ (decimal r.own.number ++ 10 ∷ x))) (three_parts (codes "pipeline ") (pipeline_word r.chosen) line_end s))
 
 head_cut : (r q : ReceiptSaid) (s t : Bytes) → is_name r.own.job ≡ true → is_name q.own.job ≡ true → IsWord (pipeline_word r.chosen) → IsWord (pipeline_word q.chosen)
     → head_lines r ++ s ≡ head_lines q ++ t → (pipeline_word r.chosen ≡ pipeline_word q.chosen) × (s ≡ t)
 head_cut r q s t name name' word word' e =
-    let rest = λ (x : ReceiptSaid) (u : Bytes). decimal x.own.number ++ 10 ∷ codes "pipeline " ++ (pipeline_word x.chosen ++ 10 ∷ u) in
-    let last = λ (x : ReceiptSaid) (u : Bytes). codes "pipeline " ++ (pipeline_word x.chosen ++ 10 ∷ u) in
-    let h : r.own.job ++ 32 ∷ rest r s ≡ q.own.job ++ 32 ∷ rest q t = cc (sym (head_shape r s) ∙ e ∙ head_shape q t) in
-    let j = word_at 32 r.own.job q.own.job (rest r s) (rest q t) (lit≤ tt) (name_word r.own.job name) (name_word q.own.job name') h in
-    let n = word_at 10 (decimal r.own.number) (decimal q.own.number) (last r s) (last q t) (lit≤ tt) (number_word r.own.number) (number_word q.own.number) j.1 in
+    let h : r.own.job ++ 32 ∷ number_on r s ≡ q.own.job ++ 32 ∷ number_on q t = cc (sym (head_shape r s) ∙ e ∙ head_shape q t) in
+    let j = word_at 32 r.own.job q.own.job (number_on r s) (number_on q t) (lit≤ tt) (name_word r.own.job name) (name_word q.own.job name') h in
+    let n = word_at 10 (decimal r.own.number) (decimal q.own.number) (pipeline_on r s) (pipeline_on q t) (lit≤ tt) (number_word r.own.number) (number_word q.own.number) j.1 in
     let g : pipeline_word r.chosen ++ 10 ∷ s ≡ pipeline_word q.chosen ++ 10 ∷ t = cc (n.1) in
     word_at 10 (pipeline_word r.chosen) (pipeline_word q.chosen) s t (lit≤ tt) word word' g
 
