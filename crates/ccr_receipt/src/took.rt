@@ -158,14 +158,18 @@ fn put_all(
     ensures { OnOk result (string_bytes out.new
         ≡ string_bytes out.old ++ all_took receipt.now (and_words is_first) inputs.now limits.now choices.now) }
 {
-    match (inputs, limits, choices) {
-        ([input, others @ ..], [limit, more @ ..], [choice, further @ ..]) => {
-            put_and(out, is_first)?;
-            put_took(out, receipt, input, limit, choice)?;
-            put_all(out, receipt, false, others, more, further)
-        }
-        _ => Ok(()),
-    }
+    let [input, others @ ..] = inputs else {
+        return Ok(());
+    };
+    let [limit, more @ ..] = limits else {
+        return Ok(());
+    };
+    let [choice, further @ ..] = choices else {
+        return Ok(());
+    };
+    put_and(out, is_first)?;
+    put_took(out, receipt, input, limit, choice)?;
+    put_all(out, receipt, false, others, more, further)
 }
 
 /// Adds what was taken for an input, and who had moved it before.
