@@ -2,6 +2,8 @@
 
 ghost use Rattle.std.specs.Prelude.{◌≡◌, IfOk, string_bytes};
 ghost use Rattle.ccr_check.specs.Judged.{refused};
+ghost use Rattle.ccr_receipt.specs.ReceiptText.{receipt_text};
+ghost use Rattle.ccr_receipt.specs.Right.{IsReceipt};
 ghost use Rattle.ccr_receipt.specs.FaultWords.{receipt_fault_words};
 ghost use Rattle.ccr_receipt.specs.Words.{receipt_words, status_of, told};
 ghost use Rattle.ccr_receipt.specs.Judged.{IsReceiptJudged, IsRightReceipt, IsReceiptHeld};
@@ -56,12 +58,23 @@ fn refused(alloc: Global, why: ReceiptFault) -> Result<(String, u8), AllocError>
     Ok((line, 1))
 }
 
-#[tactic(auto, using(crate::proofs::Judging::is_said, crate::proofs::Judging::is_refused))]
+/// What is said of a text that is this receipt's.
+#[tactic(auto, using(crate::proofs::Judging::is_said))]
+fn told_of(alloc: Global, bytes: &[u8], receipt: &Receipt) -> Result<(String, u8), AllocError>
+    requires kept { IsReceipt receipt.now }
+    requires text { bytes.now ≡ receipt_text receipt.now }
+    ensures { IfOk result (λ x. IsReceiptJudged bytes.now (string_bytes x.0, x.1)) }
+{
+    let out = told(alloc, receipt)?;
+    Ok(out)
+}
+
+#[tactic(auto, using(crate::proofs::Judging::is_refused))]
 fn judge_text(alloc: Global, bytes: &[u8]) -> Result<(String, u8), AllocError>
     ensures { IfOk result (λ x. IsReceiptJudged bytes.now (string_bytes x.0, x.1)) }
 {
     match read_receipt(alloc, bytes) {
-        Ok(receipt) => told(alloc, &receipt),
+        Ok(receipt) => told_of(alloc, bytes, &receipt),
         Err(ReceiptFault::NoMemory) => Err(AllocError),
         Err(fault) => refused(alloc, fault),
     }
