@@ -48,6 +48,22 @@ pub(crate) fn read<I: Read + Drop, F: Read + Drop>(
     }
 }
 
+/// The file of a receipt behind `--receipt`, or the two files of these names.
+fn source_named<R: Files + Input + Alloc>(
+    rt: &R,
+    first: &str,
+    second: &str,
+) -> Result<Source<R::Reader, R::File>, InputFault> {
+    if first == "--receipt" {
+        let receipt = fs::open(rt, second)?;
+        Ok(Source::Receipt(receipt))
+    } else {
+        let problem = fs::open(rt, first)?;
+        let proof = fs::open(rt, second)?;
+        Ok(Source::Files(problem, proof))
+    }
+}
+
 /// What the program's words name: standard input where there are none, the two files of these names, or behind `--receipt` the file of a
 /// receipt.
 ///
@@ -59,15 +75,7 @@ pub(crate) fn source_of<R: Env + Files + Input + Alloc>(
     let _program = words.next();
     match (words.next(), words.next(), words.next()) {
         (None, None, None) => Ok(Source::Input(rt.reader())),
-        (Some(option), Some(receipt), None) if option.as_str() == "--receipt" => {
-            let receipt = fs::open(rt, receipt.as_str())?;
-            Ok(Source::Receipt(receipt))
-        }
-        (Some(problem), Some(proof), None) => {
-            let problem = fs::open(rt, problem.as_str())?;
-            let proof = fs::open(rt, proof.as_str())?;
-            Ok(Source::Files(problem, proof))
-        }
+        (Some(first), Some(second), None) => source_named(rt, first.as_str(), second.as_str()),
         _ => Err(InputFault::WrongWords),
     }
 }
