@@ -1,0 +1,4 @@
+pub mod BuildsThen
+pub mod TablesThen
+pub mod Others
+pub mod KeptLaws

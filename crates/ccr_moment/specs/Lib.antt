@@ -1,0 +1,3 @@
+pub mod Moments
+pub mod Then
+pub mod Kept
