@@ -1,7 +1,7 @@
 -- Builds as they were, from what became of them.
-use Rattle.std.proofs.Common.{◌≡◌, ◌≢◌, ℕ, zero, suc, ◌+◌, ◌<◌, ◌≤◌, ◌⊎◌, List, [], ◌∷◌, ◌++◌, map, length, take, slice_get, Bool, true, false, cond, ◌==◌, ◌||◌, Option, Some, None, refl, sym, ap, ap₂, ◌∙◌, subst, inl, inr, ⊎_elim, arith}
+use Rattle.std.proofs.Common.{◌≡◌, ℕ, suc, ◌+◌, ◌⊎◌, List, [], ◌∷◌, ◌++◌, map, length, take, slice_get, Bool, true, false, cond, ◌==◌, ◌||◌, Some, refl, sym, ap, ap₂, ◌∙◌, inl, inr, ⊎_elim, arith}
 use Rattle.std.specs.List.{AllByRecursion, list_any}
-use Rattle.std.proofs.lemmas.Bool.{cases_Bool, cases_eq, cases_order, and_parts, eqb-true, eq-eqb, ne_eqb, cond-true, cond-false, both_ways}
+use Rattle.std.proofs.lemmas.Bool.{cases_eq, cases_order, and_parts, eqb-true, eq-eqb, ne_eqb, both_ways}
 use Rattle.std.proofs.lemmas.Slice.Eq.{bytes_eq-Decides}
 use Rattle.ccr_history.specs.declared.build.Status.{Status}
 use Rattle.ccr_history.specs.declared.build.Status.TheVariants.{Running, Succeeded, Failed, Errored, Aborted}
@@ -70,7 +70,7 @@ numbered : (job : Text) (bs : List BuildData) → AreNumbered bs → (i : ℕ) (
 numbered job bs are i b at of =
     are i b at ∙ ap (λ j. count_of j (take i bs) + 1) (sym ((bytes_eq-Decides job b.job).0 of))
 
-found_somewhere : (job : Text) (n : ℕ) (bs : List BuildData) (b : BuildData) → build_of job n bs ≡ Some b → (i : ℕ) × (slice_get bs i ≡ Some b) × (is_build_of job n b ≡ true)
+pub found_somewhere : (job : Text) (n : ℕ) (bs : List BuildData) (b : BuildData) → build_of job n bs ≡ Some b → (i : ℕ) × (slice_get bs i ≡ Some b) × (is_build_of job n b ≡ true)
 found_somewhere job n [] b e = absurd (cc)
 found_somewhere job n (c ∷ bs) b e = by (found_somewhere job n bs b) (is_build_of job n c) refl e
   where
@@ -79,19 +79,25 @@ found_somewhere job n (c ∷ bs) b e = by (found_somewhere job n bs b) (is_build
     by later true is same = let here : c ≡ b = cc in (0, same, ap (is_build_of job n) (sym here) ∙ is)
     by later false is same = let more = later same in (suc more.0, more.1, more.2)
 
-only_one : (job : Text) (n : ℕ) (bs : List BuildData) → AreNumbered bs → (i k : ℕ) (b c : BuildData) → slice_get bs i ≡ Some b → slice_get bs k ≡ Some c
-    → is_build_of job n b ≡ true → is_build_of job n c ≡ true → b ≡ c
-only_one job n bs are i k b c at there here other =
+pub only_position : (job : Text) (n : ℕ) (bs : List BuildData) → AreNumbered bs → (i k : ℕ) (b c : BuildData) → slice_get bs i ≡ Some b → slice_get bs k ≡ Some c
+    → is_build_of job n b ≡ true → is_build_of job n c ≡ true → i ≡ k
+only_position job n bs are i k b c at there here other =
     let one = and_parts (is_of job b) (n == b.number) here in
     let two = and_parts (is_of job c) (n == c.number) other in
     let m = numbered job bs are i b at one.0 in
     let o = numbered job bs are k c there two.0 in
     let same : n ≡ b.number = eqb-true n b.number one.1 in
     let too : n ≡ c.number = eqb-true n c.number two.1 in
-    ⊎_elim (λ e. let both : slice_get bs i ≡ Some c = ap (slice_get bs) e ∙ there in cc)
+    ⊎_elim (λ e. e)
     (⊎_elim (λ lt. absurd (omega (arith, count_rises (is_of job) bs i k b at one.0 lt)))
     (λ lt. absurd (omega (arith, count_rises (is_of job) bs k i c there two.0 lt))))
     (cases_order i k)
+
+only_one : (job : Text) (n : ℕ) (bs : List BuildData) → AreNumbered bs → (i k : ℕ) (b c : BuildData) → slice_get bs i ≡ Some b → slice_get bs k ≡ Some c
+    → is_build_of job n b ≡ true → is_build_of job n c ≡ true → b ≡ c
+only_one job n bs are i k b c at there here other =
+    let both : slice_get bs i ≡ Some c = ap (slice_get bs) (only_position job n bs are i k b c at there here other) ∙ there in
+    cc
 
 each_at : (P : BuildData → Type 0) (bs : List BuildData) → ((i : ℕ) (b : BuildData) → slice_get bs i ≡ Some b → P b) → AllByRecursion P bs
 each_at P [] h = tt

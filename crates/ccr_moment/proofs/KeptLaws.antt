@@ -1,5 +1,5 @@
 -- A moment gives the history back as it was.
-use Rattle.std.proofs.Common.{◌≡◌, ℕ, ◌+◌, List, [], ◌∷◌, ◌++◌, length, refl, ◌∙◌, sym}
+use Rattle.std.proofs.Common.{◌+◌, List, [], ◌∷◌, ◌++◌, length, refl, ◌∙◌, sym}
 use Rattle.ccr_history.specs.Text.{Text}
 use Rattle.ccr_history.specs.Builds.{UsedData, new_build, count_of}
 use Rattle.ccr_history.specs.History.{HistoryData, IsHistory}
