@@ -23,5 +23,6 @@ pub fn each_moment_is_kept()
 ///
 /// It is a law over the definitions alone; nothing runs.
 pub fn noted_rightly()
-    ensures { (h : HistoryData) (texts : ℕ) (s : StandingData) (e : Edit) → IsNext h texts s e → IsNotedRightly h texts s e }
+    ensures { (h : HistoryData) (texts : ℕ) (s : StandingData) (e : Edit)
+        → IsNext h texts s e → IsNotedRightly h texts s e }
 {}
