@@ -7,3 +7,4 @@ pub mod Shortenings
 pub mod SettledInputs
 pub mod Rising
 pub mod Parts
+pub mod MovedPlaces

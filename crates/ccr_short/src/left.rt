@@ -1,10 +1,12 @@
 //! What is left of a problem: copies of the inputs and builds with what stays.
 
-ghost use Rattle.std.specs.Prelude.{◌≡◌, ◌<◌, length, filter, IfOk};
+ghost use Rattle.std.specs.Prelude.{◌≡◌, ◌<◌, ◌||◌, ◌&&◌, nat_lt, false, length, filter, slice_index_or, IfOk};
+ghost use Rattle.std.specs.List.{list_all};
 ghost use Rattle.ccr_choice.specs.Problem.{input_at, builds_at};
-ghost use Rattle.ccr_short.specs.Shortened.{build_stays, builds_left, place_stays, inputs_from};
+ghost use Rattle.ccr_short.specs.Shortened.{is_as_good, came, build_stays, builds_left, place_stays, inputs_from};
 
-use crate::stays::{build_stays, came, is_as_good};
+use crate::marks::{are_marked, marks_of_jobs};
+use crate::stays::{build_stays, is_as_good};
 use ccr_choice::{Build, Input, JobBuilds, Problem};
 use std::alloc::{AllocError, Global};
 
@@ -112,27 +114,82 @@ fn places_left(
     ensures { IfOk result (λ left. left.items
         ≡ filter (place_stays problem.now places.now open_at number) input.now.places) }
 {
+    if open_at < number {
+        let behind = places_behind(alloc, problem, places, jobs, number, input)?;
+        Ok(behind)
+    } else {
+        let up_to = places_as_good(alloc, problem, places, number, input)?;
+        Ok(up_to)
+    }
+}
+
+/// The places of input `number` that are the choice's own or preferred to it.
+fn places_as_good(
+    alloc: Global,
+    problem: &Problem,
+    places: &[u32],
+    number: usize,
+    input: &Input,
+) -> Result<Vec<u32>, AllocError>
+    ensures { IfOk result (λ left. left.items ≡ filter (is_as_good problem.now places.now number) input.now.places) }
+{
     input
         .places()
         .iter()
         .copied()
-        .filter(|x| place_stays(problem, places, open_at, jobs, number, input, *x))
+        .filter(|x| is_as_good(problem, places, number, *x))
         .collect(alloc)
 }
 
-/// Whether a place of input `number` stays.
-fn place_stays(
+/// These places of input `number`, and those that builds of each job that it names moved.
+fn places_behind(
+    alloc: Global,
     problem: &Problem,
     places: &[u32],
-    open_at: usize,
     jobs: &[JobBuilds],
     number: usize,
     input: &Input,
+) -> Result<Vec<u32>, AllocError>
+    ensures { IfOk result (λ left. left.items
+        ≡ filter (λ n. is_as_good problem.now places.now number n || came jobs.now input.now n) input.now.places) }
+{
+    let marks = marks_of_jobs(alloc, jobs, input.jobs(), input.scope())?;
+    let left = places_marked(alloc, problem, places, number, input, &marks)?;
+    Ok(left)
+}
+
+/// The places of input `number` that are as good, or marked in each of these tables if the input names jobs.
+fn places_marked(
+    alloc: Global,
+    problem: &Problem,
+    places: &[u32],
+    number: usize,
+    input: &Input,
+    marks: &[Vec<bool>],
+) -> Result<Vec<u32>, AllocError>
+    ensures { IfOk result (λ left. left.items ≡ filter (λ n. is_as_good problem.now places.now number n
+        || (nat_lt 0 (length input.now.jobs) && list_all (λ m. slice_index_or m.items n false) marks.now))
+        input.now.places) }
+{
+    input
+        .places()
+        .iter()
+        .copied()
+        .filter(|x| is_as_good_or_marked(problem, places, number, input, marks, *x))
+        .collect(alloc)
+}
+
+fn is_as_good_or_marked(
+    problem: &Problem,
+    places: &[u32],
+    number: usize,
+    input: &Input,
+    marks: &[Vec<bool>],
     place: u32,
 ) -> bool
-    requires left { jobs.now ≡ builds_left problem.now places.now open_at }
-    requires is { input.now ≡ input_at problem.now number }
-    ensures { result ≡ place_stays problem.now places.now open_at number place }
+    ensures { result ≡ (is_as_good problem.now places.now number place
+        || (nat_lt 0 (length input.now.jobs) && list_all (λ m. slice_index_or m.items place false) marks.now)) }
 {
-    is_as_good(problem, places, number, place) || (open_at < number && came(jobs, input, place))
+    is_as_good(problem, places, number, place)
+        || (0 < input.jobs().len() && are_marked(marks, place))
 }

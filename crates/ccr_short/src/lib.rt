@@ -7,6 +7,7 @@
 
 mod law;
 mod left;
+mod marks;
 mod opening;
 mod short;
 mod stays;

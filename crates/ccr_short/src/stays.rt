@@ -1,13 +1,13 @@
 //! Which places and which builds stay.
 
-ghost use Rattle.std.specs.Prelude.{◌≡◌, ◌&&◌, ◌==◌, [], slice_index_or};
-ghost use Rattle.std.specs.List.{list_any, list_all};
+ghost use Rattle.std.specs.Prelude.{◌≡◌, ◌&&◌, ◌==◌};
+ghost use Rattle.std.specs.List.{list_any};
 ghost use Rattle.ccr_choice.specs.Ascending.{AreRising};
-ghost use Rattle.ccr_short.specs.Shortened.{is_as_good, may_have, names, suits, build_stays, is_moved, came};
+ghost use Rattle.ccr_short.specs.Shortened.{is_as_good, may_have, names, suits, build_stays};
 
 use crate::opening::own_place;
 use ccr_choice::possible::has_place;
-use ccr_choice::{Build, Input, JobBuilds, Problem, is_preferred};
+use ccr_choice::{Build, Input, Problem, is_preferred};
 
 /// Whether a place of input `input` is the choice's own or preferred to it.
 pub(crate) fn is_as_good(problem: &Problem, places: &[u32], input: usize, place: u32) -> bool
@@ -100,42 +100,4 @@ pub(crate) fn build_stays(
         }
     }
     true
-}
-
-/// Whether a pair of scope and place is among these.
-fn has_pair(pairs: &[(u32, u32)], scope: u32, place: u32) -> bool
-    ensures { result ≡ list_any (λ q. q.0 == scope && q.1 == place) pairs.now }
-{
-    pairs.iter().any(|q| q.0 == scope && q.1 == place)
-}
-
-/// Whether one of these builds moved a pair of scope and place.
-fn is_moved(builds: &[Build], scope: u32, place: u32) -> bool
-    ensures { result ≡ is_moved scope place builds.now }
-{
-    builds.iter().any(|b| has_pair(b.pairs(), scope, place))
-}
-
-/// Whether one of the builds of job `job` moved a pair of scope and place.
-fn is_moved_by(jobs: &[JobBuilds], job: u32, scope: u32, place: u32) -> bool
-    ensures { result ≡ is_moved scope place (slice_index_or jobs.now job []) }
-{
-    match jobs.get(job as usize) {
-        Some(found) => is_moved(found.builds(), scope, place),
-        None => false,
-    }
-}
-
-/// Whether one of the builds of each of these jobs moved a pair of scope and place.
-fn is_moved_by_each(jobs: &[JobBuilds], named: &[u32], scope: u32, place: u32) -> bool
-    ensures { result ≡ list_all (λ j. is_moved scope place (slice_index_or jobs.now j [])) named.now }
-{
-    named.iter().all(|j| is_moved_by(jobs, *j, scope, place))
-}
-
-/// Whether the input names jobs, and builds of each of them moved a place of it.
-pub(crate) fn came(jobs: &[JobBuilds], input: &Input, place: u32) -> bool
-    ensures { result ≡ came jobs.now input.now place }
-{
-    0 < input.jobs().len() && is_moved_by_each(jobs, input.jobs(), input.scope(), place)
 }
