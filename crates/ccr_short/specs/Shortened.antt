@@ -22,8 +22,8 @@ pub record IsFirstOpen (p : ProblemValue) (places : List ℕ) (open_at : ℕ) : 
 abbrev pub is_as_good : ProblemValue → List ℕ → ℕ → ℕ → Bool
 is_as_good p places i n = n == slice_index places i || order_of p i n (slice_index places i)
 
--- A better choice may have a place at input i: before the first open input only the choice's own, at the open one also a
--- place that is preferred to it, and behind that any that is allowed.
+-- A better choice may have a place at input i: before the first open input only the choice's own, at the open one
+-- also a place that is preferred to it, and behind that any that is allowed.
 abbrev pub may_have : ProblemValue → List ℕ → ℕ → ℕ → InputValue → ℕ → Bool
 may_have p places open_at i x n =
     n == slice_index places i || ((i == open_at && order_of p i n (slice_index places i))
@@ -33,8 +33,8 @@ may_have p places open_at i x n =
 abbrev pub names : ℕ → InputValue → Bool
 names j x = list_any (λ n. n == j) x.jobs
 
--- A build of job j suits input i: the input doesn't name the job, or the build moved a place that a better choice may have
--- there.
+-- A build of job j suits input i: the input doesn't name the job, or the build moved a place that a better choice
+-- may have there.
 abbrev pub suits : ProblemValue → List ℕ → ℕ → ℕ → BuildValue → ℕ → InputValue → Bool
 suits p places open_at j b i x =
     not (names j x) || list_any (λ q. q.0 == x.scope && may_have p places open_at i x q.1) b.pairs
@@ -68,8 +68,8 @@ is_moved scope n bs = list_any (λ b. list_any (λ q. q.0 == scope && q.1 == n) 
 abbrev pub came : List (List BuildValue) → InputValue → ℕ → Bool
 came jobs x n = nat_lt 0 (length x.jobs) && list_all (λ j. is_moved x.scope n (slice_index_or jobs j [])) x.jobs
 
--- A place of input i stays if it is the choice's own or preferred to it, or if the input lies behind the first open one and
--- builds that stay moved the place.
+-- A place of input i stays if it is the choice's own or preferred to it, or if the input lies behind the first open
+-- one and builds that stay moved the place.
 abbrev pub place_stays : ProblemValue → List ℕ → ℕ → ℕ → ℕ → Bool
 place_stays p places open_at i n =
     is_as_good p places i n || (nat_lt open_at i && came (builds_left p places open_at) (input_at p i) n)
@@ -87,22 +87,23 @@ with_what_stays p places open_at = record {
   jobs = builds_left p places open_at;
 }
 
--- A problem is another one shortened once for a choice with these places: it has the places and the builds of it that stay.
+-- A problem is another one shortened once for a choice with these places: it has the places and the builds of it
+-- that stay.
 pub record IsShortenedOnce (p : ProblemValue) (places : List ℕ) (short : ProblemValue) : Type 0 where
   pub open_at : ℕ
   pub first : IsFirstOpen p places open_at
   pub is : short ≡ with_what_stays p places open_at
 
--- A problem is another one shortened for a choice with these places: twice, since without the places that are left out the
--- first time, fewer builds suit the inputs behind the first open one.
+-- A problem is another one shortened for a choice with these places: twice, since without the places that are left
+-- out the first time, fewer builds suit the inputs behind the first open one.
 pub record IsShortened (p : ProblemValue) (places : List ℕ) (short : ProblemValue) : Type 0 where
   pub between : ProblemValue
   pub once : IsShortenedOnce p places between
   pub again : IsShortenedOnce between places short
 
 -- ---- what a reader relies on
--- A problem is a part of the whole one: inputs have the same scope, jobs and kept place, and some of the places, among them
--- all that are the choice's own or preferred to it; and jobs have some of the builds.
+-- A problem is a part of the whole one: inputs have the same scope, jobs and kept place, and some of the places,
+-- among them all that are the choice's own or preferred to it; and jobs have some of the builds.
 pub record IsPartOf (whole : ProblemValue) (places : List ℕ) (short : ProblemValue) : Type 0 where
   pub inputs : length short.inputs ≡ length whole.inputs
   pub jobs : length short.jobs ≡ length whole.jobs

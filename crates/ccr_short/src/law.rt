@@ -11,7 +11,8 @@ ghost use Rattle.ccr_short.specs.Shortened.{IsShortened, IsPartOf};
 ///
 /// It is a law over the definitions alone; nothing runs.
 pub fn best_of_the_short_is_best_of_the_whole()
-    // A choice satisfies the short problem exactly where it satisfies the whole one, if the short one is shortened for it.
+    // A choice satisfies the short problem exactly where it satisfies the whole one, if the short one is shortened
+    // for it.
     ensures satisfies { (whole short : ProblemValue) (places builds : List ℕ) → IsProblem whole
         → IsShortened whole places short → (Satisfies short places builds ↔ Satisfies whole places builds) }
 

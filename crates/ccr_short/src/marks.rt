@@ -8,7 +8,8 @@ ghost use Rattle.ccr_short.specs.Shortened.{is_moved};
 use ccr_choice::{Build, JobBuilds};
 use std::alloc::{AllocError, Global};
 
-/// For each of these jobs the places in a scope that its builds moved: whether a place is among them stands at its number.
+/// For each of these jobs the places in a scope that its builds moved: whether a place is among them stands at its
+/// number.
 pub(crate) fn marks_of_jobs(
     alloc: Global,
     jobs: &[JobBuilds],
