@@ -25,8 +25,6 @@ mod picture;
 mod place;
 mod span;
 mod sweep;
-#[cfg(test)]
-mod tests;
 mod wish;
 
 pub use graph::{Edge, Kind, MOST_NODES, MOST_PORTS, MOST_WIDTH, Node};
