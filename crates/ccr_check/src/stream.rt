@@ -28,9 +28,9 @@ fn is_open(problem: &Problem, fixed: &Fixed, job: usize, builds: u32) -> bool
     builds as usize == problem.builds(job).len()
 }
 
-/// Goes through the tree at the front, which has at most `levels` levels of job nodes, where `nodes` nodes were read before: how many
-/// were read with it, and the text behind it. None where it doesn't refute, isn't whole, or has a node that is the same
-/// as another.
+/// Goes through the tree at the front, which has at most `levels` levels of job nodes, where `nodes` nodes were read
+/// before: how many were read with it, and the text behind it. None where it doesn't refute, isn't whole, or has a node
+/// that is the same as another.
 fn next_case<'a>(
     problem: &Problem,
     bound: Option<&[u32]>,

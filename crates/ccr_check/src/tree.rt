@@ -15,6 +15,7 @@ use ccr_choice::possible::{Fixed, best_possible, fixed_build, is_bounded};
 use ccr_choice::{Problem, is_dominated};
 use ccr_proof::Node;
 
+/// Whether an input has no possible place while these builds are fixed.
 pub(crate) fn has_no_place(problem: &Problem, fixed: &Fixed, input: usize) -> bool
     requires { input < length problem.now.inputs }
     ensures { IsTrue result ↔ HasNoPlace problem.now (assigned problem.now fixed.now) input }
@@ -22,6 +23,7 @@ pub(crate) fn has_no_place(problem: &Problem, fixed: &Fixed, input: usize) -> bo
     best_possible(problem, fixed, input).is_none()
 }
 
+/// Whether the best possible places aren't better than a bound's, if there is a bound.
 pub(crate) fn is_under(problem: &Problem, fixed: &Fixed, bound: Option<&[u32]>) -> bool
     ensures { IsTrue result
         ↔ IsBounded (order_of problem.now) problem.now (option_copied bound.entry) (assigned problem.now fixed.now) }
