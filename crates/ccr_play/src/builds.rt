@@ -1,9 +1,9 @@
 //! A build of one job, answered line by line.
 //!
-//! `pipeline JSON` sets a pipeline; `start JOB VERSIONS` starts a build of a job, with a version for each of its inputs in plan order.
-//! Each other line is an answer to what the build asked last: `done`, `failed`, `errored`, `aborted`, `pushed VERSION`
-//! or `config CONFIG`. The answer to a line is what the build asks then, as JSON, or how it ended and which versions it
-//! moved.
+//! `pipeline JSON` sets a pipeline; `start JOB VERSIONS` starts a build of a job, with a version for each of its inputs
+//! in plan order. Each other line is an answer to what the build asked last: `done`, `failed`, `errored`, `aborted`,
+//! `pushed VERSION` or `config CONFIG`. The answer to a line is what the build asks then, as JSON, or how it ended and
+//! which versions it moved.
 
 use crate::steps::{push_moved, started_of};
 use anyhow::{Result, anyhow};

@@ -3,10 +3,11 @@
 //! `pipeline JSON` begins a new history with this pipeline, `again JSON` sets another one in the history.
 //! `versions RESOURCE JSON` reports a list of versions; `tried RESOURCE JSON` does so and takes the report back;
 //! `fill RESOURCE N` reports the versions `{"n":"1"}` to `{"n":"N"}`; `place RESOURCE JSON` asks for a version's place.
-//! `build JOB INPUT=SCOPE.PLACE ..` makes a build; `end JOB NUMBER STATUS SCOPE.PLACE ..` ends one; `failed JOB N` makes N builds
-//! and ends them as failed; `used JOB INPUT SCOPE.PLACE` asks whether a build of the job used this place.
-//! `pin RESOURCE JSON`, `unpin RESOURCE`, `disable RESOURCE PLACE`, `enable RESOURCE PLACE`. `problem JOB` prints the problem of a job, `resolve JOB BUDGET` its proof.
-//! `history` prints the history; `copy` goes on with a copy of it.
+//! `build JOB INPUT=SCOPE.PLACE ..` makes a build; `end JOB NUMBER STATUS SCOPE.PLACE ..` ends one; `failed JOB N`
+//! makes N builds and ends them as failed; `used JOB INPUT SCOPE.PLACE` asks whether a build of the job used this
+//! place. `pin RESOURCE JSON`, `unpin RESOURCE`, `disable RESOURCE PLACE`, `enable RESOURCE PLACE`. `problem JOB`
+//! prints the problem of a job, `resolve JOB BUDGET` its proof. `history` prints the history; `copy` goes on with a
+//! copy of it.
 
 ghost use Rattle.std.specs.Prelude.{◌≤◌};
 

@@ -14,15 +14,17 @@
 //! | `histories` | a history, and the problems of its jobs |
 //! | `stores` | histories that a store keeps and loads |
 //!
-//! Each has a module of its name, which says what its lines are. With the word `--timed` behind it, nothing but each line's
-//! time is printed. `ccr_play_server` plays those of servers. `ccr_play stores DATABASE` keeps the histories in files of this name too.
+//! Each has a module of its name, which says what its lines are. With the word `--timed` behind it, nothing but each
+//! line's time is printed. `ccr_play_server` plays those of servers. `ccr_play stores DATABASE` keeps the histories in
+//! files of this name too.
 //!
 //! `ccr_play check KIND.cases ..` plays the lines of files, and compares what is told with the files: a line for each file. The
 //! gate runs this on the files of `data/`, whose answers were worked out by hand.
 //!
-//! Other calls: `ccr_play pipeline` reads a whole pipeline. `ccr_play resolve BUDGET` reads a problem and prints
-//! the proof of its best choice, or that none satisfies, of at most BUDGET nodes; `ccr_play choose BUDGET` prints the line of
-//! the same claim alone. Statuses: 0 done, 1 refused or answered otherwise, 2 usage, 3 over budget, 4 out of memory or unreadable.
+//! Other calls: `ccr_play pipeline` reads a whole pipeline. `ccr_play resolve BUDGET` reads a problem and prints the
+//! proof of its best choice, or that none satisfies, of at most BUDGET nodes; `ccr_play choose BUDGET` prints the line
+//! of the same claim alone. Statuses: 0 done, 1 refused or answered otherwise, 2 usage, 3 over budget, 4 out of memory
+//! or unreadable.
 #![tactic(auto)]
 
 mod builds;

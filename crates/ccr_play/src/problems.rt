@@ -1,10 +1,11 @@
 //! Problems, claims, proofs and what is said of them.
 //!
-//! A text is given in one line, with `\n` where a line of it ends. `problem TEXT`, `claim TEXT` and `proof TEXT` read one, and write it
-//! again. `judge TEXT` is what the checker says of a text, and its status. `example TEXT` reads a problem that lines behind it speak of:
-//! `judge-behind TEXT` is `judge` of the example with a text behind it, `satisfies PLACES / BUILDS` what is said of a choice,
-//! `check TEXT` of a proof, and `resolve BUDGET` finds the best choice. `later PLACES / PLACES` compares two lists, and
-//! `preferred PLACES / PLACES` compares them in the order of the example.
+//! A text is given in one line, with `\n` where a line of it ends. `problem TEXT`, `claim TEXT` and `proof TEXT` read
+//! one, and write it again. `judge TEXT` is what the checker says of a text, and its status. `example TEXT` reads a
+//! problem that lines behind it speak of: `judge-behind TEXT` is `judge` of the example with a text behind it,
+//! `satisfies PLACES / BUILDS` what is said of a choice, `check TEXT` of a proof, and `resolve BUDGET` finds the best
+//! choice. `later PLACES / PLACES` compares two lists, and `preferred PLACES / PLACES` compares them in the order of
+//! the example.
 ghost use Rattle.std.specs.Prelude.{◌≤◌};
 ghost use Rattle.ccr_proof.specs.Claim.{IsClaim};
 

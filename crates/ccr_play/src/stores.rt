@@ -5,14 +5,15 @@
 //! closed, opened again and loaded once more. It is answered how many lines the history has that was loaded as it was made;
 //! where one wasn't, with both.
 //!
-//! `stops FRAMES` makes the changes, one a line, over files in memory of which one fails from a call on, at each of its calls in turn,
-//! and the same while all is loaded. A log of FRAMES frames is copied into the database. It is answered how many stops there were; where
-//! one left another history than that before the change that it cut short or after it, with what it left. `raises FRAMES` makes them in
-//! a database that gets the number of the first format then, and stops a store at each call while it takes and loads that one; and once more
-//! while it takes it as it was left, in the second format.
+//! `stops FRAMES` makes the changes, one a line, over files in memory of which one fails from a call on, at each of its
+//! calls in turn, and the same while all is loaded. A log of FRAMES frames is copied into the database. It is answered
+//! how many stops there were; where one left another history than that before the change that it cut short or after it,
+//! with what it left. `raises FRAMES` makes them in a database that gets the number of the first format then, and stops
+//! a store at each call while it takes and loads that one; and once more while it takes it as it was left, in the
+//! second format.
 //!
-//! `foreign STATEMENTS` makes a database by these, `spoiled STATEMENTS` one with the six tables and then by these, and `text TEXT` a file
-//! of this text: it is answered how a store refuses it, and whether its bytes are as they were.
+//! `foreign STATEMENTS` makes a database by these, `spoiled STATEMENTS` one with the six tables and then by these, and
+//! `text TEXT` a file of this text: it is answered how a store refuses it, and whether its bytes are as they were.
 
 mod files;
 mod foreign;

@@ -1,10 +1,10 @@
 //! Events of a core.
 //!
-//! `core BUDGET` begins a core with nothing seen and no pipeline, whose searches take at most so many nodes. Each other line is
-//! an event, and its answer the core's reply or its fault: `pipeline JSON`, `checked RESOURCE VERSIONS`, `fill RESOURCE COUNT`,
-//! `schedule JOB`, `trigger JOB`, `answer JOB NUMBER TURN ANSWER`, `abort JOB NUMBER`, `pin RESOURCE PIN`, `unpin RESOURCE`,
-//! `disable RESOURCE PLACE`, `enable RESOURCE PLACE`, `restart`. Or it asks what the core holds: `builds`, `tables`, `wants JOB NUMBER`, `index JOB`. `docs/FORMATS.md` has the
-//! answers.
+//! `core BUDGET` begins a core with nothing seen and no pipeline, whose searches take at most so many nodes. Each other
+//! line is an event, and its answer the core's reply or its fault: `pipeline JSON`, `checked RESOURCE VERSIONS`,
+//! `fill RESOURCE COUNT`, `schedule JOB`, `trigger JOB`, `answer JOB NUMBER TURN ANSWER`, `abort JOB NUMBER`,
+//! `pin RESOURCE PIN`, `unpin RESOURCE`, `disable RESOURCE PLACE`, `enable RESOURCE PLACE`, `restart`. Or it asks what
+//! the core holds: `builds`, `tables`, `wants JOB NUMBER`, `index JOB`. `docs/FORMATS.md` has the answers.
 //!
 //! `watched BUDGET` begins a core so, too, and after each event in it the index that it keeps for each job is compared with one
 //! that is built anew: where they don't answer alike, the event's answer has a second line.

@@ -6,12 +6,13 @@
 //!
 //! The script of the next server: `ends WORD ..` (`STATUS`, `STATUS:OUTPUT`, `numbers:COUNT` for a check that found so
 //! many versions, `killed`, `too-long`, `not-started`: how programs end, in turn), `folders N` and `no-folders N` (N
-//! calls for folders are done, or fail), `file TEXT` (a file that is read), `commits N [FAULT]` (the storage fails after
-//! N commits: `refused`, `no-memory`, `interrupted`, `not-ours`, or as a disk where no fault is named), `runs JOB [N]` (the history
-//! that it begins with has a build of this job that runs, or N of them), `notes` (what it tells on standard error is shown),
-//! `launcher` (`/l` starts all programs). `open` makes a server over it, with a history that is empty otherwise, types in `/t`
-//! and builds in `/w`. Then `round`, `turn`, and the commands of `ccr_run`, of which `set-pipeline` and tasks read the script's
-//! files. `--json` stands before a command's other words.
+//! calls for folders are done, or fail), `file TEXT` (a file that is read), `commits N [FAULT]` (the storage fails
+//! after N commits: `refused`, `no-memory`, `interrupted`, `not-ours`, or as a disk where no fault is named),
+//! `runs JOB [N]` (the history that it begins with has a build of this job that runs, or N of them), `notes` (what it
+//! tells on standard error is shown), `launcher` (`/l` starts all programs). `open` makes a server over it, with a
+//! history that is empty otherwise, types in `/t` and builds in `/w`. Then `round`, `turn`, and the commands of
+//! `ccr_run`, of which `set-pipeline` and tasks read the script's files. `--json` stands before a command's other
+//! words.
 
 mod aside;
 mod script;

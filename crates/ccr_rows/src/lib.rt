@@ -1,9 +1,10 @@
 //! What the two programs share that play lines.
 //!
-//! A [`Player`] answers lines of one kind, and [`played`] tells each line with its answer below it, after `> `. A program has
-//! its [`Kind`]s of lines; with [`check`] it plays the lines of files, `KIND.cases`, and compares what is told with the files. [`Answer`]
-//! is what a program prints, and with which status it ends. The words of lines stand for versions, pins, places, statuses and
-//! answers, for how programs end and what folders answer, or they are refused with a [`LineFault`]. What a build asks is told as JSON, by [`ask_text`].
+//! A [`Player`] answers lines of one kind, and [`played`] tells each line with its answer below it, after `> `. A
+//! program has its [`Kind`]s of lines; with [`check`] it plays the lines of files, `KIND.cases`, and compares what is
+//! told with the files. [`Answer`] is what a program prints, and with which status it ends. The words of lines stand
+//! for versions, pins, places, statuses and answers, for how programs end and what folders answer, or they are refused
+//! with a [`LineFault`]. What a build asks is told as JSON, by [`ask_text`].
 //!
 //! Beside these stands one law, [`resolved`]: the checker accepts what the resolver answers.
 #![tactic(auto)]

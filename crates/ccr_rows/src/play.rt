@@ -76,8 +76,8 @@ fn push_played<P: Player>(
     Ok(())
 }
 
-/// Plays each line of a text, and adds what is told. Lines that begin with `> `, the answers that are wanted, are left out. A line
-/// that begins with `#`, and an empty one, is told as it stands.
+/// Plays each line of a text, and adds what is told. Lines that begin with `> `, the answers that are wanted, are left
+/// out. A line that begins with `#`, and an empty one, is told as it stands.
 fn push_all<P: Player>(
     rt: &HostRuntime,
     text: &mut String,

@@ -84,8 +84,8 @@ fn line_with_room<O: Lines>(
     Ok(line)
 }
 
-/// Asks for the build that is ordered to be aborted, by a directory of the shelf, and prints that it is asked; nothing is told beside
-/// that. Which jobs there are stands in the database; here the name is one that a job may have.
+/// Asks for the build that is ordered to be aborted, by a directory of the shelf, and prints that it is asked; nothing
+/// is told beside that. Which jobs there are stands in the database; here the name is one that a job may have.
 pub fn abort_build<F: Shelf, O: Lines>(
     alloc: Global,
     shelf: &mut F,

@@ -68,8 +68,8 @@ fn has_shown(command: &Command, end: &Result<u8, Failure>) -> bool
     }
 }
 
-/// Says on standard error what is found in this text of a pipeline, where what is ordered has set one; or that no pipeline is set, where
-/// there is no text, and something was shown.
+/// Says on standard error what is found in this text of a pipeline, where what is ordered has set one; or that no
+/// pipeline is set, where there is no text, and something was shown.
 pub fn tell_gates<'e, E: Write>(
     alloc: Global,
     telling: &mut Telling<'e, E>,
@@ -263,8 +263,9 @@ fn validate_text<O: Lines>(
     }
 }
 
-/// Prints what is found in a pipeline's file. Whether nothing of it is a reason to refuse the pipeline: nothing in it doesn't do what it
-/// seems to say, and where the validation is strict, nothing but gates is found. All faults of a text that is refused are printed.
+/// Prints what is found in a pipeline's file. Whether nothing of it is a reason to refuse the pipeline: nothing in it
+/// doesn't do what it seems to say, and where the validation is strict, nothing but gates is found. All faults of a
+/// text that is refused are printed.
 ///
 /// `Read` where the text is refused, `File` where the file can't be read, and `NoMemory`.
 pub fn validate<F: Shelf, O: Lines>(

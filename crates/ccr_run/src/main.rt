@@ -77,8 +77,9 @@ fn words(rt: &HostRuntime) -> Result<Vec<String>, Misuse> {
     }
 }
 
-/// Answers the words with the programs, the directories and the files of this machine, as they are: nothing is known of them. Lines go to
-/// one writer, and what is told of steps to another one. Whether it ended with status 0 is handed on, too.
+/// Answers the words with the programs, the directories and the files of this machine, as they are: nothing is known of
+/// them. Lines go to one writer, and what is told of steps to another one. Whether it ended with status 0 is handed on,
+/// too.
 fn answer_by<W: Write + Drop, E: Write + Drop>(
     rt: &HostRuntime,
     words: &[String],

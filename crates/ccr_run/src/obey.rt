@@ -74,7 +74,8 @@ fn do_command<
     requires untold { told_data telling.old ≡ nothing_told }
     ensures did { (outcome : OutcomeData) × Served R.Runner F.Shelf ⟦<FileDatabase<S> as Storage>⟧
         (from_files (image_at S.Start) (λ is_log file. IsFresh is_log file) opener.new.answer) order.now
-        (O.asked opener.new.files) tools outcome.end result.1 (out.old.shown ++ out.old.waiting) (out.new.shown ++ out.new.waiting)
+        (O.asked opener.new.files) tools outcome.end result.1
+        (out.old.shown ++ out.old.waiting) (out.new.shown ++ out.new.waiting)
         × (outcome.is_printed ≡ not out.new.failed)
         × IsToldOf order.now outcome (text_left result.1) (told_data telling.new)
         × (result.0 ≡ exit_status_of outcome) }

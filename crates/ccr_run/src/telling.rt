@@ -176,8 +176,8 @@ impl<'e, E: Write> Telling<'e, E> {
         }
     }
 
-    /// Tells what was found in a pipeline that was set, but for keys of Concourse that have no effect: the command lists those. And
-    /// then what to do about it, if it isn't what it should be.
+    /// Tells what was found in a pipeline that was set, but for keys of Concourse that have no effect: the command
+    /// lists those. And then what to do about it, if it isn't what it should be.
     pub fn gates(&mut self, findings: &Findings)
         ensures told { told_data self.new
             ≡ record (told_data self.old) { gates = Some (found_lines findings.now.items) } }

@@ -10,8 +10,8 @@ use std::alloc::{AllocError, Global};
 /// Files of which one may fail.
 pub(super) type Fused = Files<Fuse<Memory>>;
 
-/// How the files are used. Few pages are kept in memory, so that there are many calls of a file. A log that is so many frames long is copied
-/// into the database.
+/// How the files are used. Few pages are kept in memory, so that there are many calls of a file. A log that is so many
+/// frames long is copied into the database.
 pub(super) fn options(frames: u32) -> Options {
     Options {
         cache_pages: 2,

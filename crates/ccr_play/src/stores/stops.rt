@@ -1,7 +1,8 @@
-//! Stops at each call of a file: a store is run over files of which one fails from a call on, and its history is loaded from what is left.
+//! Stops at each call of a file: a store is run over files of which one fails from a call on, and its history is loaded
+//! from what is left.
 //!
-//! What is left is looked at twice: as a program that is killed leaves it, with all that was written, and as a crash of the machine leaves
-//! it, without what wasn't synced.
+//! What is left is looked at twice: as a program that is killed leaves it, with all that was written, and as a crash of
+//! the machine leaves it, without what wasn't synced.
 
 ghost use Rattle.std.specs.Prelude.{◌≡◌, false};
 
@@ -93,7 +94,8 @@ fn held_over<S: Alter + Drop>(alloc: Global, conn: Connection<S>) -> Result<Stri
     held(alloc, store)
 }
 
-/// An error where a history isn't the one after so many lines, or, where the next line's change was being committed, the one after that.
+/// An error where a history isn't the one after so many lines, or, where the next line's change was being committed,
+/// the one after that.
 fn check_found(texts: &[String], stage: Stage, kept: usize, text: &str) -> Result<()> {
     let allowed = if stage == Stage::Committing { 2 } else { 1 };
     if texts
@@ -180,7 +182,8 @@ impl Trial<'_> {
         let name = name_of(failing);
         let count = stops.len();
         Ok(format!(in alloc;
-            "{what}, {name}: {count} stops, {opening} at opening, {adopting} at adopting, {loading} at loading, {committing} at commits\n"
+            "{what}, {name}: {count} stops, {opening} at opening, {adopting} at adopting, \
+             {loading} at loading, {committing} at commits\n"
         )?)
     }
 
@@ -253,9 +256,9 @@ fn stopped(alloc: Global, lines: &str, frames: u32, texts: &[String]) -> Result<
     Ok(told)
 }
 
-/// Stops a store at each call of each of its files: while it is made in empty files and keeps these lines, and while all of it is loaded. The
-/// lines that tell how often it was stopped; an error where a stop left another history than the one before the change that it cut short,
-/// or after it.
+/// Stops a store at each call of each of its files: while it is made in empty files and keeps these lines, and while
+/// all of it is loaded. The lines that tell how often it was stopped; an error where a stop left another history than
+/// the one before the change that it cut short, or after it.
 pub(super) fn stops_told(alloc: Global, lines: &str, frames: u32) -> Result<String> {
     let texts = texts_of(alloc, lines)?;
     stopped(alloc, lines, frames, &texts)
@@ -293,8 +296,8 @@ fn raised(alloc: Global, lines: &str, frames: u32, texts: &[String]) -> Result<S
     Ok(told)
 }
 
-/// The same while a database of the first format is taken that holds the history of these lines: it is loaded and written over. And then
-/// while it is taken as it was left, which writes nothing.
+/// The same while a database of the first format is taken that holds the history of these lines: it is loaded and
+/// written over. And then while it is taken as it was left, which writes nothing.
 pub(super) fn raises_told(alloc: Global, lines: &str, frames: u32) -> Result<String> {
     let texts = texts_of(alloc, lines)?;
     raised(alloc, lines, frames, &texts)
