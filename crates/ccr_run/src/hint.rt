@@ -76,7 +76,7 @@ fn of_text(fault: &ReadFault) -> &'static str
 {
     match fault {
         ReadFault::NotJson(_) => {
-            "YAML isn't read: examples/operating/pipeline-json FILE makes JSON of it; of JSON, ccr_run validate-pipeline FILE shows where the slip is"
+            "YAML isn't read: examples/operating/pipeline-json FILE makes JSON of it. JSON has no comments; ccr_run validate-pipeline FILE shows where the slip is"
         }
         ReadFault::BadName(_) => {
             "a name has 1 to 128 bytes, no / and no control character, and isn't . or ..; ccr_run validate-pipeline FILE shows what stands there"
@@ -103,7 +103,10 @@ fn of_server<'a>(path: &'a str, fault: &ServeFault) -> Option<Hint<'a>>
             path,
             "the pipeline that is set in it, if one is, has no such name: jobs and resources show those that it has; is --db right?",
         ),
-        ServeFault::Core(CoreFault::NoBuild) => bare("builds shows which builds there are"),
+        ServeFault::Core(CoreFault::NoBuild) => about(
+            path,
+            "it has no such build: builds shows those that it has; is --db right?",
+        ),
         ServeFault::Core(CoreFault::NoVersion) => bare(
             "resource-versions NAME shows which places there are",
         ),
@@ -131,7 +134,7 @@ fn of_copy<'a>(path: &'a str, fault: CopyFault) -> Hint<'a>
 {
     let words = match fault {
         CopyFault::NoFile => {
-            "a look makes no database: is --db right? a command without --look makes one"
+            "nothing is there: is --db right? set-pipeline makes a database, where the directory is there"
         }
         CopyFault::OnlyLog => {
             "what was written last is in the file beside it that ends in -wal: bring back the file that belongs to it, or a copy"
@@ -207,19 +210,29 @@ fn of_open<'a>(path: &'a str, error: &Error) -> Hint<'a>
     }
 }
 
+/// What to do about why a command wasn't done over the database at a path, where that helps.
+fn of_failure<'a>(path: &'a str, failure: &Failure) -> Option<Hint<'a>>
+    ensures { option_map hint_data result ≡ spec.of_failure path.now failure.now }
+{
+    match failure {
+        Failure::Locked => Some(about(
+            path,
+            "another program has the database open: lsof FILE names it. Try again when it has ended (examples/operating/ccr waits for it); what only shows waits for nobody with --look, as builds --look",
+        )),
+        Failure::Unopened(error) => Some(of_open(path, error)),
+        Failure::Refused(fault) => of_server(path, fault),
+        Failure::Unread(fault) => Some(of_copy(path, *fault)),
+        Failure::Unfound(fault) => of_bytes(path, *fault),
+    }
+}
+
 /// What to do about how a command ended over the database at a path, where that helps.
 pub fn hint_of<'a>(path: &'a str, end: &Result<u8, Failure>) -> Option<Hint<'a>>
     ensures { option_map hint_data result ≡ spec.hint_of path.now end.now }
 {
     match end {
         Ok(status) => of_status(*status),
-        Err(Failure::Locked) => Some(about(
-            path,
-            "another program has the database open: lsof FILE names it. Try again when it has ended (examples/operating/ccr waits for it); what only shows waits for nobody with --look, as builds --look",
-        )),
-        Err(Failure::Unopened(error)) => Some(of_open(path, error)),
-        Err(Failure::Refused(fault)) => of_server(path, fault),
-        Err(Failure::Unread(fault)) => Some(of_copy(path, *fault)),
-        Err(Failure::Unfound(fault)) => of_bytes(path, *fault),
+        Err(_) if path.is_empty() => Some(bare("--db names no file: is a variable empty?")),
+        Err(failure) => of_failure(path, failure),
     }
 }

@@ -159,7 +159,7 @@ fn answer_here(rt: &HostRuntime, words: &[String]) -> ExitCode {
     let out = advise(rt, words, out, rt.stderr(), Topic::NoneAllowed);
     let out = advise(rt, words, out, rt.stderr(), Topic::NonePassed);
     let out = advise(rt, words, out, rt.stderr(), Topic::Pinned);
-    let out = advise(rt, words, out, rt.stderr(), Topic::AbortAsked);
+    let out = advise(rt, words, out, rt.stderr(), Topic::BuildErrored);
     let told = rt.stderr();
     let told = advise(rt, words, told, rt.stderr(), Topic::StepNotJson);
     let told = advise(rt, words, told, rt.stderr(), Topic::StepWrongKind);
@@ -169,6 +169,7 @@ fn answer_here(rt: &HostRuntime, words: &[String]) -> ExitCode {
     let told = advise(rt, words, told, rt.stderr(), Topic::FileUnread);
     let told = advise(rt, words, told, rt.stderr(), Topic::NoTask);
     let told = advise(rt, words, told, rt.stderr(), Topic::StepNotStarted);
+    let told = advise(rt, words, told, rt.stderr(), Topic::TaskNotStarted);
     let told = advise(rt, words, told, rt.stderr(), Topic::StepStatus);
     let told = advise(rt, words, told, rt.stderr(), Topic::StepFolder);
     answer_heard(rt, words, out, told)
