@@ -54,10 +54,6 @@ passed_hint = codes "no build of the job behind passed has moved this yet: expla
 abbrev pub abort_hint : Text
 abort_hint = codes "builds --job JOB --look shows whether it is there and runs; if it isn't there yet, it is aborted when it comes. rmdir WORK/JOB/abort-N takes this back"
 
--- what a pin does
-abbrev pub pin_hint : Text
-pin_hint = codes "jobs get no other version of it now, and none if no version has what the pin has: resource-versions NAME shows which there are, unpin-resource NAME takes it back"
-
 -- what an output has to be
 abbrev pub reply_hint : Text
 reply_hint = codes "a get's or put's program prints an object with its version on standard output, as {\"version\":{\"ref\":\"61cbef\"}}, and nothing else there"
@@ -99,7 +95,6 @@ topic_data t.CheckFolder = at_end (codes ": refused: folder fault") work_hint
 topic_data t.NoneSatisfies = record (at_end (codes ": none satisfies") none_hint) { unless = Some (codes "check ") }
 topic_data t.NoneAllowed = clash (codes " takes an allowed version") allowed_hint
 topic_data t.NonePassed = record (clash (codes " passed ") passed_hint) { but = Some (codes " takes an allowed version") }
-topic_data t.Pinned = on (codes "pinned ") pin_hint
 topic_data t.AbortAsked = on (codes "abort asked: ") abort_hint
 topic_data t.StepNotJson = of_resource (at_end (codes ": not JSON") reply_hint)
 topic_data t.StepWrongKind = at_end (codes ": wrong kind") reply_hint
@@ -113,11 +108,10 @@ topic_data t.StepStatus =
     record (of_task (on (codes ": exit status ") status_hint)) { but = Some (codes ": exit status 124" ++ 10 ∷ []) }
 topic_data t.StepFolder = at_end (codes ": folder fault") work_hint
 
--- THE WORDS WITH WHICH NOTHING IS TOLD of a topic: `explain` says more than hints do, but for those about its clash; what a pin
--- does is told by the command that sets one; and a launcher may show what a program prints
+-- THE WORDS WITH WHICH NOTHING IS TOLD of a topic: `explain` says more than hints do, but for those about its clash; and
+-- a launcher may show what a program prints
 abbrev pub is_silent : Topic → List Text → Bool
 is_silent t.NoneAllowed words = not (has_word (codes "explain") words)
 is_silent t.NonePassed words = not (has_word (codes "explain") words)
-is_silent t.Pinned words = not (has_word (codes "pin-resource") words)
 is_silent t.StepStatus words = has_option (codes "--launcher") words
 is_silent topic words = has_word (codes "explain") words

@@ -36,8 +36,6 @@ pub enum Topic {
     NoneAllowed,
     /// A clash has the demand that a version has passed a job, and none that one is allowed.
     NonePassed,
-    /// A resource is pinned.
-    Pinned,
     /// A build is to be aborted.
     AbortAsked,
     /// An output is no JSON.
@@ -74,7 +72,6 @@ impl Topic {
             Topic::CheckFolder => ": refused: folder fault\n",
             Topic::NoneSatisfies => ": none satisfies\n",
             Topic::NoneAllowed | Topic::NonePassed => "\nclash: ",
-            Topic::Pinned => "pinned ",
             Topic::AbortAsked => "abort asked: ",
             Topic::StepNotJson | Topic::FileNotJson => ": not JSON\n",
             Topic::StepWrongKind => ": wrong kind\n",
@@ -136,8 +133,6 @@ impl Topic {
                 "an allowed version is one that no pin leaves out and nobody disabled: resource-versions NAME shows what there is, check-resource NAME looks for more",
             Topic::NonePassed =>
                 "no build of the job behind passed has moved this yet: explain that job, too. Where jobs wait for each other, ccr_run --db FILE get-pipeline > p.json; ccr_run validate-pipeline p.json names them",
-            Topic::Pinned =>
-                "jobs get no other version of it now, and none if no version has what the pin has: resource-versions NAME shows which there are, unpin-resource NAME takes it back",
             Topic::AbortAsked =>
                 "builds --job JOB --look shows whether it is there and runs; if it isn't there yet, it is aborted when it comes. rmdir WORK/JOB/abort-N takes this back",
             Topic::StepNotJson | Topic::StepWrongKind | Topic::StepNoVersion => REPLY,
@@ -160,7 +155,6 @@ impl Topic {
     {
         match self {
             Topic::NoneAllowed | Topic::NonePassed => !has_word(words, "explain"),
-            Topic::Pinned => !has_word(words, "pin-resource"),
             Topic::StepStatus => has_option(words, "--launcher"),
             _ => has_word(words, "explain"),
         }
