@@ -50,10 +50,6 @@ allowed_hint = codes "an allowed version meets each pin, and nobody disabled it;
 abbrev pub passed_hint : Text
 passed_hint = codes "no build of the job behind passed has succeeded with a version that is allowed here: explain that job, too. If two jobs wait for each other, ccr_run validate-pipeline FILE names them"
 
--- what a pin does
-abbrev pub pin_hint : Text
-pin_hint = codes "jobs get no other version of it now, and none if no version has what the pin has: resource-versions NAME shows which there are, unpin-resource NAME takes it back"
-
 -- what an output has to be
 abbrev pub reply_hint : Text
 reply_hint = codes "a get's or put's program prints an object with its version on standard output, as {\"version\":{\"ref\":\"61cbef\"}}, and nothing else there"
@@ -104,7 +100,6 @@ topic_data t.NoneSatisfies = record (at_end (codes ": none satisfies") none_hint
 topic_data t.NoneAllowed = clash (codes " takes an allowed version") allowed_hint
 topic_data t.NonePassed = record (clash (codes " passed ") passed_hint) { but = Some (codes " takes an allowed version") }
 topic_data t.BuildErrored = at_end (codes " errored") why_hint
-topic_data t.Pinned = on (codes "pinned ") pin_hint
 topic_data t.StepNotJson = of_resource (at_end (codes ": not JSON") reply_hint)
 topic_data t.StepWrongKind = at_end (codes ": wrong kind") reply_hint
 topic_data t.StepNoVersion = at_end (codes ": missing version") reply_hint
@@ -119,11 +114,10 @@ topic_data t.StepStatus =
 topic_data t.StepFolder = at_end (codes ": folder fault") work_hint
 
 -- THE WORDS WITH WHICH NOTHING IS TOLD of a topic: `explain` says more than hints do, but for those about its clash; why a build
--- errored is told where one is shown; what a pin does, by the command that sets one; and a launcher may show what a program prints
+-- errored is told where one is shown; and a launcher may show what a program prints
 abbrev pub is_silent : Topic → List Text → Bool
 is_silent t.NoneAllowed words = not (has_word (codes "explain") words)
 is_silent t.NonePassed words = not (has_word (codes "explain") words)
 is_silent t.BuildErrored words = not (has_word (codes "build") words)
-is_silent t.Pinned words = not (has_word (codes "pin-resource") words)
 is_silent t.StepStatus words = has_option (codes "--launcher") words
 is_silent topic words = has_word (codes "explain") words

@@ -38,8 +38,6 @@ pub enum Topic {
     NonePassed,
     /// A build that is shown errored.
     BuildErrored,
-    /// A resource is pinned.
-    Pinned,
     /// An output is no JSON.
     StepNotJson,
     /// An output is no object.
@@ -77,7 +75,6 @@ impl Topic {
             Topic::NoneSatisfies => ": none satisfies\n",
             Topic::NoneAllowed | Topic::NonePassed => "\nclash: ",
             Topic::BuildErrored => " errored\n",
-            Topic::Pinned => "pinned ",
             Topic::StepNotJson | Topic::FileNotJson => ": not JSON\n",
             Topic::StepWrongKind => ": wrong kind\n",
             Topic::StepNoVersion => ": missing version\n",
@@ -141,8 +138,6 @@ impl Topic {
                 "no build of the job behind passed has succeeded with a version that is allowed here: explain that job, too. If two jobs wait for each other, ccr_run validate-pipeline FILE names them",
             Topic::BuildErrored =>
                 "why it errored was said on standard error as it ended: ccr log JOB N shows that, where ccr keeps logs (examples/operating)",
-            Topic::Pinned =>
-                "jobs get no other version of it now, and none if no version has what the pin has: resource-versions NAME shows which there are, unpin-resource NAME takes it back",
             Topic::StepNotJson | Topic::StepWrongKind | Topic::StepNoVersion => REPLY,
             Topic::FileNotJson =>
                 "a task's file is JSON: examples/operating/pipeline-json --task FILE makes it of YAML",
@@ -166,7 +161,6 @@ impl Topic {
         match self {
             Topic::NoneAllowed | Topic::NonePassed => !has_word(words, "explain"),
             Topic::BuildErrored => !has_word(words, "build"),
-            Topic::Pinned => !has_word(words, "pin-resource"),
             Topic::StepStatus => has_option(words, "--launcher"),
             _ => has_word(words, "explain"),
         }
