@@ -9,17 +9,18 @@
 //! prints the problem of a job, `resolve JOB BUDGET` its proof. `history` prints the history; `copy` goes on with a
 //! copy of it.
 
-ghost use Rattle.std.specs.Prelude.{◌≤◌};
+ghost use Rattle.std.specs.Prelude.{◌≡◌, ◌≤◌, None};
+ghost use Rattle.ccr_history.specs.History.{no_history};
 
 use crate::problems::proof_text;
 use anyhow::{Result, anyhow, bail};
 use ccr_choice::{Problem, write_problem};
-use ccr_history::{History, HistoryFault, Scope, Status, Version};
+use ccr_history::{History, HistoryFault, Scope, Status, Used, Version};
 use ccr_pipeline::{Pipeline, read};
 use ccr_problem::problem_of;
 use ccr_rows::{
-    Player, number_of, numbered, pair_of, pairs_of, pin_of, scope_in, split, status_of, text_of,
-    used_places, version_of, versions_of,
+    FromWords, Player, Told, number_of, numbered, pair_of, pin_of, scope_in, split, status_of,
+    version_of,
 };
 use std::alloc::{AllocError, Global};
 
@@ -94,7 +95,9 @@ impl Player for Histories {
 
 impl Histories {
     /// Nothing seen, and no pipeline.
-    pub(crate) fn new(alloc: Global) -> Histories {
+    pub(crate) fn new(alloc: Global) -> Histories
+        ensures { (result.history ≡ no_history) × (result.pipeline ≡ None) }
+    {
         Histories {
             history: History::new(alloc),
             pipeline: None,
@@ -123,7 +126,7 @@ impl Histories {
             "problem" => self.problem(alloc, first),
             "resolve" => self.resolved(alloc, first, rest),
             "copy" => self.copied(alloc),
-            "history" => Ok(text_of(alloc, &self.history)?),
+            "history" => Ok(self.history.told(alloc)?),
             _ => bail!("no line begins with {kind}"),
         }
     }
@@ -153,7 +156,7 @@ impl Histories {
     }
 
     fn reported(&mut self, alloc: Global, name: &str, text: &str) -> Result<String> {
-        let versions = versions_of(alloc, text)?;
+        let versions = Vec::<Version>::from_words(alloc, text)?;
         self.append(alloc, name, &versions)
     }
 
@@ -168,7 +171,7 @@ impl Histories {
     }
 
     fn tried(&mut self, alloc: Global, name: &str, text: &str) -> Result<String> {
-        let versions = versions_of(alloc, text)?;
+        let versions = Vec::<Version>::from_words(alloc, text)?;
         self.take_back(alloc, name, &versions)
     }
 
@@ -191,7 +194,7 @@ impl Histories {
     }
 
     fn made(&mut self, alloc: Global, job: &str, words: &str) -> Result<String> {
-        let used = used_places(alloc, words)?;
+        let used = Vec::<Used>::from_words(alloc, words)?;
         if !self.history.can_use(&used) {
             bail!("no such places")
         }
@@ -204,7 +207,7 @@ impl Histories {
     fn ended(&mut self, alloc: Global, job: &str, words: &str) -> Result<String> {
         let (number, words) = split(words);
         let (status, words) = split(words);
-        let moved = pairs_of(alloc, words)?;
+        let moved = Vec::<(u32, u32)>::from_words(alloc, words)?;
         if !self.history.can_move(&moved) {
             bail!("no such places")
         }

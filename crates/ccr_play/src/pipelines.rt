@@ -5,6 +5,7 @@
 //! reads the example with a piece of it replaced, where it stands first. `pipeline-parts`, `pipeline-unused` and
 //! `pipeline-inputs` tell more of a pipeline, `task-variables` of a task file. `pipeline-bytes` has the bytes of a text
 //! in hexadecimal, and `pipeline-of COUNT WHAT` makes one with so many of something.
+ghost use Rattle.std.specs.Prelude.{◌≡◌, [], string_bytes};
 
 use ccr_pipeline::{Input, Pipeline, ReadFault, TaskConfig, Wanted, inputs_of, read, read_task};
 use ccr_rows::{Player, split};
@@ -18,7 +19,9 @@ pub(crate) struct Pipelines {
 
 impl Pipelines {
     /// The empty example.
-    pub(crate) fn new(alloc: Global) -> Pipelines {
+    pub(crate) fn new(alloc: Global) -> Pipelines
+        ensures { string_bytes result.example ≡ [] }
+    {
         Pipelines {
             example: String::new(alloc),
         }
