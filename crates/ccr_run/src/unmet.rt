@@ -57,7 +57,8 @@ fn has_unmet(core: &Core, name: &str) -> bool
     ensures { result ≡ has_unmet name.now (core_data core.now) }
 {
     let history = core.history();
-    is_unmet(resource_in(core.pipeline(), name), history.pin(name), history)
+    let resource = resource_in(core.pipeline(), name);
+    is_unmet(resource, history.pin(name), history)
 }
 
 /// Says what to do about the pin by command of the resource of a name, if it has one that no version meets.
