@@ -1,5 +1,5 @@
 -- Directories of types that are looked for one after the other.
-use Rattle.std.proofs.Common.{◌≡◌, ◌∙◌, ℕ, ◌+◌, ◌<◌, List, [], ◌∷◌, ◌++◌, length, map, drop, get_or, refl, sym, ap, subst, suc, add-one, append_assoc, drop-cons, Result, Ok, Err}
+use Rattle.std.proofs.Common.{◌≡◌, ◌∙◌, ℕ, ◌+◌, ◌<◌, List, [], ◌∷◌, ◌++◌, length, map, drop, get_or, sym, ap, subst, suc, add-one, append_assoc, drop-cons, Result, Ok, Err}
 use Rattle.std.proofs.KnownBytes.{Appends-nil}
 use Rattle.std.proofs.lemmas.List.{append-nil, drop-map}
 use Rattle.std.specs.Prelude.{Bool, OnOk}
@@ -51,7 +51,7 @@ left_at xs at x h e =
     ∙ (ap (λ (l : List Resource). map resource_data l) (drop-cons xs at x h)
     ∙ (ap (λ (y : Resource). resource_data y ∷ map resource_data (drop (suc at) xs)) (sym e)
     ∙ ap (λ (l : List ResourceData). resource_data x ∷ l)
-        (sym (drop-map resource_data (suc at) xs) ∙ ap (λ n. drop n (map resource_data xs)) (sym (add-one at)))))
+    (sym (drop-map resource_data (suc at) xs) ∙ ap (λ n. drop n (map resource_data xs)) (sym (add-one at)))))
 
 -- the one at a position is looked for, and then those behind it
 pub from_here : (types : Text) (xs : List Resource) (at : ℕ) (x : Resource) (end : Result Unit AllocError)

@@ -38,14 +38,15 @@ lacking_lines types at (a ∷ answers) (r ∷ rs) =
 lacking_lines types at answers rs = []
 
 -- the directory of one resource's type was looked for, with an answer, and its lines were told
-pub record TellsType (types : Text) (at : ℕ) (r : ResourceData) (before after : List CallData) (old new : WriterData) : Type 0 where
+pub record TellsType (types : Text) (at : ℕ) (r : ResourceData) (before after : List CallData) (old new : WriterData)
+    : Type 0 where
   pub answer : Result Bool ShelfFault
   pub asked : after ≡ before ++ has (type_folder types r) answer ∷ []
   pub told : GetsLines (answer_lines at (type_folder types r) answer) old new
 
--- THE DIRECTORIES OF TYPES ARE LOOKED FOR, of resources of which the first stands at this position: by one call of the shelf for
--- each, in order, and by no other call; and of each that isn't there, and of no other, a line is told, in the same order. Out of
--- memory, it was done for the first ones
+-- THE DIRECTORIES OF TYPES ARE LOOKED FOR, of resources of which the first stands at this position: by one call of the
+-- shelf for each, in order, and by no other call; and of each that isn't there, and of no other, a line is told, in the
+-- same order. Out of memory, it was done for the first ones
 pub record TellsLacking (types : Text) (at : ℕ) (rs : List ResourceData) (end : Result Unit AllocError)
     (before after : List CallData) (old new : WriterData) : Type 0 where
   pub answers : List (Result Bool ShelfFault)

@@ -39,8 +39,8 @@ unmet_line name =
 abbrev pub pin_lines : Text → CoreData → List Text
 pin_lines name core = if has_unmet name core then unmet_line name ∷ [] else []
 
--- WHAT IS TOLD OF A PIN that a command has set, by what the core holds behind it: one line, if no version meets it yet. Nothing is
--- told of another command
+-- WHAT IS TOLD OF A PIN that a command has set, by what the core holds behind it: one line, if no version meets it yet.
+-- Nothing is told of another command
 abbrev pub unmet_lines : CommandData → CoreData → List Text
 unmet_lines (pin_resource name pin) core = pin_lines name core
 unmet_lines command core = []

@@ -90,8 +90,8 @@ fn resources_set<'c>(command: &Command, core: &'c Core) -> &'c [Resource]
     }
 }
 
-/// Looks for the directories of the types of the pipeline that a command has set, in the directory of types, and says what to do
-/// about each that isn't there. The core is as the command left it. The only error is out of memory.
+/// Looks for the directories of the types of the pipeline that a command has set, in the directory of types, and says
+/// what to do about each that isn't there. The core is as the command left it. The only error is out of memory.
 pub fn tell_lacking<F: Shelf, E: Write>(
     alloc: Global,
     errors: &mut Errors<E>,

@@ -82,8 +82,8 @@ fn words(rt: &HostRuntime) -> Result<Vec<String>, Misuse> {
 }
 
 /// Answers the words with the programs, the directories and the files of this machine, as they are: nothing is known of
-/// them. Lines go to one writer, and what is told of steps to another one. What it has set may have a hint. Whether it ended
-/// with status 0 is handed on, too.
+/// them. Lines go to one writer, and what is told of steps to another one. What it has set may have a hint. Whether it
+/// ended with status 0 is handed on, too.
 fn answer_by<W: Write + Drop, E: Write + Drop>(
     rt: &HostRuntime,
     words: &[String],
@@ -124,8 +124,8 @@ fn is_silent(rt: &HostRuntime) -> bool {
     }
 }
 
-/// Says what to do about what a command has set, by the server that it leaves: about a pin that no version meets, and about the
-/// types of a pipeline whose directory isn't there.
+/// Says what to do about what a command has set, by the server that it leaves: about a pin that no version meets, and
+/// about the types of a pipeline whose directory isn't there.
 fn tell_set<R, F, T, C>(rt: &HostRuntime, words: &[String], left: &Left<R, F, T, C>) {
     let alloc = rt.alloc();
     let Some(core) = left.core() else {

@@ -30,7 +30,8 @@ fn is_met(pin: &Pin, versions: &[Version]) -> bool
 
 /// Whether there are a resource and a pin, and no version in the history of the resource's scope meets the pin.
 fn is_unmet(resource: Option<&Resource>, pin: Option<&Pin>, history: &History) -> bool
-    ensures { result ≡ is_unmet (option_map (λ r. resource_data r.now) resource.entry) (option_copied pin.entry) history.now }
+    ensures { result ≡ is_unmet (option_map (λ r. resource_data r.now) resource.entry) (option_copied pin.entry)
+        history.now }
 {
     let Some(resource) = resource else {
         return false;
@@ -57,7 +58,8 @@ fn has_unmet(core: &Core, name: &str) -> bool
     ensures { result ≡ has_unmet name.now (core_data core.now) }
 {
     let history = core.history();
-    is_unmet(resource_in(core.pipeline(), name), history.pin(name), history)
+    let resource = resource_in(core.pipeline(), name);
+    is_unmet(resource, history.pin(name), history)
 }
 
 /// Says what to do about the pin by command of the resource of a name, if it has one that no version meets.
@@ -72,7 +74,8 @@ fn tell_pin<E: Write>(errors: &mut Errors<E>, core: &Core, name: &str)
     }
 }
 
-/// Says what to do about the pin that a command has set, if no version meets it yet. The core is as the command left it.
+/// Says what to do about the pin that a command has set, if no version meets it yet. The core is as the command left
+/// it.
 pub fn tell_unmet<E: Write>(errors: &mut Errors<E>, command: &Command, core: &Core)
     ensures { GetsLines (unmet_lines (command_data command.now) (core_data core.now)) errors.old errors.new }
 {

@@ -9,4 +9,5 @@ returns-in_err-tell_type g t c =
 pub returns : goal.returns
 returns g t c =
     let h : c.args.at < length c.args.resources.now = omega arith in
-    from_here _ _ _ c.index-resources-at.result _ _ _ _ _ _ _ h c.index-resources-at.is c.in_ok-tell_type.ensures.told c.tell_from.ensures
+    from_here _ _ _ c.index-resources-at.result _ _ _ _ _ _ _ h c.index-resources-at.is
+    c.in_ok-tell_type.ensures.told c.tell_from.ensures

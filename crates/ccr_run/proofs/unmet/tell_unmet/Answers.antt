@@ -9,7 +9,8 @@ use Rattle.ccr_run.proofs.unmet.tell_unmet.Goals as goal
 
 pub returns-in-PinResource : goal.returns-in-PinResource
 returns-in-PinResource g c =
-    subst (λ (command : Command). GetsLines (unmet_lines (command_data command) (core_data c.args.core.now)) c.args.errors.now c.tell_pin.new.errors)
-    (sym c.in-PinResource.is)
-    (subst (λ (name : Text). GetsLines (pin_lines name (core_data c.args.core.now)) c.args.errors.now c.tell_pin.new.errors)
-    c.as_str.ensures.value c.tell_pin.ensures)
+    let core = core_data c.args.core.now in
+    let old = c.args.errors.now in
+    let new = c.tell_pin.new.errors in
+    subst (λ (command : Command). GetsLines (unmet_lines (command_data command) core) old new) (sym c.in-PinResource.is)
+    (subst (λ (name : Text). GetsLines (pin_lines name core) old new) c.as_str.ensures.value c.tell_pin.ensures)
