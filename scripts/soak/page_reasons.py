@@ -87,7 +87,7 @@ class Story:
         if on:
             words += f" on {cut(on[0]['name'], 40) + ' ' if len(took) > 1 else ''}{few(on[0]['version'])}"
         worst, told = self.holds(inputs)
-        if worst in (None, "p"):
+        if worst is None:
             return words + (", and nothing newer has come" if by_itself else ", and only a command makes the next")
         return f"{words}; {self.holds_words(inputs, told, by_itself)}"
 

@@ -1,5 +1,5 @@
 -- Why a job stands still, in a sentence: a table over what `explain` says, and how the newest build stands.
-use Rattle.std.specs.Prelude.{ℕ, ◌-◌, List, [], ◌∷◌, ◌++◌, length, map, flat_map, filter, find, slice_get, Bool, true, false, not, ◌&&◌, ◌||◌, ◌==◌, nat_lt, Option, Some, None, option_and_then, if◌then◌else◌, codes, decimal}
+use Rattle.std.specs.Prelude.{ℕ, ◌-◌, List, [], ◌∷◌, ◌++◌, length, map, flat_map, filter, find, slice_get, Bool, true, false, not, ◌&&◌, ◌==◌, nat_lt, Option, Some, None, option_and_then, if◌then◌else◌, codes, decimal}
 use Rattle.std.specs.Option.{option_map_or}
 use Rattle.std.specs.Str.{bytes_eq}
 use Rattle.ccr_history.specs.Text.{Text}
@@ -15,7 +15,6 @@ use Rattle.ccr_lines.specs.declared.outlook.Outlook.{Outlook}
 use Rattle.ccr_lines.specs.declared.outlook.Outlook.TheVariants.{Due, NothingNew, ByCommandOnly, NoneSatisfies, OverBudget}
 use Rattle.ccr_page.specs.declared.data.Urgency.{Urgency}
 use Rattle.ccr_page.specs.declared.data.Urgency.TheVariants as urgency
-use Rattle.ccr_page.specs.Statuses.{is_as_urgent}
 use Rattle.ccr_overview.specs.Sayings.{version_word}
 use Rattle.ccr_overview.specs.PageData.{WordData, Plain, Cut, Named, ToRow, WhyData}
 use Rattle.ccr_overview.specs.Each.{each_from}
@@ -103,15 +102,15 @@ stopped_words k b = Plain (codes "stopped: ") ∷ build_row k b ∷ Plain (codes
 abbrev pub bad_words : HistoryData → ℕ → JobData → BuildData → List WordData
 bad_words h k j b = stopped_words k b ++ on_words h (nat_lt 1 (length b.used)) (took_on b (inputs j.plan))
 
--- that nothing else holds the job
+-- that nothing holds an input of the job
 abbrev pub alone_words : Bool → Text
 alone_words true = codes ", and nothing newer has come"
 alone_words false = codes ", and only a command makes the next"
 
--- what else holds it, but for pins and the like
+-- WHAT ELSE HOLDS IT, pins and disabled versions included; only where nothing holds an input, that nothing does
 abbrev pub beside_words : SceneData → Bool → List TakenData → List HoldData → List WordData
 beside_words s by_itself ts hs =
-    if length hs == 0 || is_as_urgent urgency.Held (worst hs) then Plain (alone_words by_itself) ∷ []
+    if length hs == 0 then Plain (alone_words by_itself) ∷ []
     else Plain (codes "; ") ∷ holds_words s (nat_lt 1 (length ts)) by_itself (told_holds hs)
 
 -- that its newest build wasn't good

@@ -11,7 +11,7 @@ ghost use Rattle.ccr_overview.specs.Scenes.{told_data, scene_data};
 ghost use Rattle.ccr_overview.specs.PageRows.{used_for};
 ghost use Rattle.ccr_overview.specs.Sentences.{build_row, running_why, only, due_of, due_words, none_why, budget_words, start_words, told_hold, more_words, holds_words, is_bad, took_on, on_words, stopped_words, bad_words, alone_words, beside_words, bad_why, held_why, ended_why, standing_why, outlook_why, why_of};
 
-use crate::hold::{Hold, holds, is_as_urgent, push_hold_words, push_resource, urgent_holds, worst};
+use crate::hold::{Hold, holds, push_hold_words, push_resource, urgent_holds, worst};
 use crate::row::used_for;
 use crate::scene::{Scene, Told};
 use crate::short::push_version;
@@ -325,7 +325,7 @@ fn bad_words(
     Ok(words)
 }
 
-/// That nothing else holds the job.
+/// That nothing holds an input of the job.
 fn alone_words(by_itself: bool) -> &'static str
     ensures { result.now ≡ alone_words by_itself }
 {
@@ -336,7 +336,7 @@ fn alone_words(by_itself: bool) -> &'static str
     }
 }
 
-/// Adds what else holds a job, but for pins and the like.
+/// Adds what else holds a job, pins and the like included; or that nothing holds an input of it.
 fn push_beside(
     alloc: Global,
     out: &mut Vec<Word>,
@@ -348,13 +348,12 @@ fn push_beside(
         OnOk result (map word_data out.new.items ≡ map word_data out.old.items
         ++ beside_words s by_itself ts (holds s ts)) }
 {
-    let all = holds(alloc, scene, inputs)?;
-    let urgency = worst(&all);
-    if all.is_empty() || is_as_urgent(Urgency::Held, urgency) {
+    let found = holds(alloc, scene, inputs)?;
+    if found.is_empty() {
         return push_plain(alloc, out, alone_words(by_itself));
     }
     push_plain(alloc, out, "; ")?;
-    push_urgent(alloc, out, scene, by_itself, inputs, urgency)
+    push_urgent(alloc, out, scene, by_itself, inputs, worst(&found))
 }
 
 /// That a job's newest build wasn't good.
