@@ -1,5 +1,5 @@
 -- What to do about how a command ended, where that helps.
-use Rattle.std.specs.Prelude.{ℕ, [], ◌∷◌, ◌++◌, Option, Some, None, option_map, Result, Ok, Err, codes, nat_eq, if◌then◌else◌}
+use Rattle.std.specs.Prelude.{ℕ, ◌++◌, length, Option, Some, None, option_map, Result, Ok, Err, codes, nat_eq, if◌then◌else◌}
 use Rattle.sqlite.specs.declared.error.Error.{Error}
 use Rattle.sqlite.specs.declared.error.Error.TheVariants.{SqliteFailure}
 use Rattle.sqlite.specs.declared.error.ErrorCode.TheVariants as sql
@@ -132,5 +132,5 @@ of_failure path (Unfound fault) = of_bytes path fault
 -- ABOUT HOW A COMMAND ENDED over the database at a path
 abbrev pub hint_of : Text → Result ℕ Failure → Option HintData
 hint_of path (Ok status) = option_map bare (of_status status)
-hint_of [] (Err failure) = Some (bare (codes "--db names no file: is a variable empty?"))
-hint_of (b ∷ bs) (Err failure) = of_failure (b ∷ bs) failure
+hint_of path (Err failure) =
+    if nat_eq (length path) 0 then Some (bare (codes "--db names no file: is a variable empty?")) else of_failure path failure

@@ -232,7 +232,7 @@ pub fn hint_of<'a>(path: &'a str, end: &Result<u8, Failure>) -> Option<Hint<'a>>
 {
     match end {
         Ok(status) => of_status(*status),
-        Err(_) if path.is_empty() => Some(bare("--db names no file: is a variable empty?")),
+        Err(_) if path.len() == 0 => Some(bare("--db names no file: is a variable empty?")),
         Err(failure) => of_failure(path, failure),
     }
 }
