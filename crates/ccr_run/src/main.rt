@@ -134,11 +134,21 @@ fn tell_set<R, F, T, C>(rt: &HostRuntime, words: &[String], left: &Left<R, F, T,
     let Ok(Ordered::Command(order)) = ordered_by(alloc, words) else {
         return;
     };
+    let options = order.options;
     let mut errors = Errors::new(alloc, rt.stderr());
     tell_unmet(&mut errors, &order.command, core);
-    let mut shelf = Folders::new(rt, alloc);
-    let types = order.options.types;
-    let _ = tell_lacking(alloc, &mut errors, &mut shelf, types, &order.command, core);
+    // A launcher may have the programs where this machine has none.
+    if options.launcher.is_none() {
+        let mut shelf = Folders::new(rt, alloc);
+        let _ = tell_lacking(
+            alloc,
+            &mut errors,
+            &mut shelf,
+            options.types,
+            &order.command,
+            core,
+        );
+    }
 }
 
 /// Answers the words in the same way, and says last what both outputs together tell.
