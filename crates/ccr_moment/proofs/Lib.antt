@@ -1,0 +1,9 @@
+pub mod BuildsThen
+pub mod TablesThen
+pub mod Others
+pub mod KeptLaws
+pub mod CountLaws
+pub mod RunLaws
+pub mod NotedLaws
+pub mod PinLists
+pub mod Lists

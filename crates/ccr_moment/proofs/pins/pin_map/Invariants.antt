@@ -1,0 +1,6 @@
+use Rattle.std.proofs.Common.{◌≡◌, ◌++◌}
+use Rattle.ccr_history.specs.Pins.{pins_of}
+use Rattle.ccr_moment.proofs.pins.pin_map.Given as goal
+
+abbrev pub invariant-loop-resource : goal.invariant-loop-resource
+invariant-loop-resource l = pins_of l.map.entries ++ pins_of l.resource-iterator ≡ l.pins

@@ -1,0 +1,9 @@
+pub mod Behind
+pub mod Checking
+pub mod Choosing
+pub mod Cutting
+pub mod Ending
+pub mod Judging
+pub mod Naming
+pub mod OneLine
+pub mod OneReceipt

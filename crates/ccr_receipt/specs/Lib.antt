@@ -1,0 +1,9 @@
+pub mod Receipt
+pub mod ReceiptText
+pub mod Rules
+pub mod Way
+pub mod Choice
+pub mod FaultWords
+pub mod Words
+pub mod Right
+pub mod Judged

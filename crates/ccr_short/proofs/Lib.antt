@@ -1,0 +1,10 @@
+pub mod Lists
+pub mod KeptRules
+pub mod WholeSatisfies
+pub mod Staying
+pub mod BestOfShort
+pub mod Shortenings
+pub mod SettledInputs
+pub mod Rising
+pub mod Parts
+pub mod MovedPlaces
