@@ -1,10 +1,10 @@
 //! Which builds can be the gates of another, and which of them had moved more.
-ghost use Rattle.std.specs.Prelude.{◌≡◌, length};
+ghost use Rattle.std.specs.Prelude.{◌≡◌, ◌==◌, ◌&&◌, slice_get};
 ghost use Rattle.std.specs.List.{list_any};
 ghost use Rattle.std.specs.Str.{bytes_eq};
 ghost use Rattle.ccr_history.specs.declared.build.Status.TheVariants.{Running, Succeeded, Failed, Errored, Aborted};
 ghost use Rattle.ccr_history.specs.Builds.{is_succeeded};
-ghost use Rattle.ccr_evidence.specs.Seen.{has_used, moved_count, may_be_gate, is_as_good};
+ghost use Rattle.ccr_evidence.specs.Seen.{passes, has_used, moved_count, may_be_gate, is_as_good};
 
 use ccr_history::{BuildRef, Status};
 
@@ -21,7 +21,9 @@ pub(crate) fn has_used(build: &BuildRef<'_>, scope: u32, place: u32) -> bool
 }
 
 /// Whether what a build used at this place of its list is this place of this scope.
-fn is_used_at(build: &BuildRef<'_>, at: usize, scope: u32, place: u32) -> bool {
+fn is_used_at(build: &BuildRef<'_>, at: usize, scope: u32, place: u32) -> bool
+    ensures { result ≡ passes (λ u. u.scope == scope && u.place == place) (slice_get build.now.used at) }
+{
     match build.used(at) {
         Some(used) => used.1 == scope && used.2 == place,
         None => false,
