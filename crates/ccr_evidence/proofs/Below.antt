@@ -1,5 +1,5 @@
 -- Tests of each number below another, and of each of a list.
-use Rattle.std.proofs.Common.{◌≡◌, ℕ, ◌+◌, ◌<◌, ◌≤◌, Bool, true, false, ◌&&◌, ◌||◌, List, length, take, get_or, Option, Some, ap, ap₂, sym, ◌∙◌}
+use Rattle.std.proofs.Common.{◌≡◌, ℕ, ◌+◌, ◌<◌, ◌≤◌, Bool, true, false, ◌&&◌, ◌||◌, List, length, take, get_or, Option, Some, ap, ap₂, sym, ◌∙◌, add-one}
 use Rattle.std.specs.Prelude.{slice_get}
 use Rattle.std.specs.List.{list_any, list_all}
 use Rattle.std.proofs.lemmas.List.Folds.{list_any_more, list_any_at}
@@ -8,7 +8,7 @@ use Rattle.ccr_evidence.specs.Seen.{passes, all_below}
 
 -- one more number
 pub all_below_next : (test : ℕ → Bool) (k : ℕ) → all_below test k ≡ true → test k ≡ true → all_below test (k + 1) ≡ true
-all_below_next test k below at = ap₂ (λ a b. a && b) below at
+all_below_next test k below at = ap (all_below test) (add-one k) ∙ ap₂ (λ a b. a && b) below at
 
 module _ {A : Type 0} (test : A → Bool) (xs : List A) (k : ℕ) (d : A) (within : k < length xs) where
   -- what stands at k

@@ -1,5 +1,5 @@
 -- What is seen in a history of the way of what a build took, where the moment of its choice isn't kept: in the history's own numbers.
-use Rattle.std.specs.Prelude.{ℕ, suc, ◌+◌, List, [], ◌∷◌, length, slice_get, Bool, true, false, not, ◌&&◌, ◌||◌, ◌==◌, nat_lt, nat_le, count_by, Option, Some, None, if◌then◌else◌}
+use Rattle.std.specs.Prelude.{ℕ, zero, suc, ◌+◌, List, [], ◌∷◌, length, slice_get, Bool, true, false, not, ◌&&◌, ◌||◌, ◌==◌, nat_lt, nat_le, count_by, Option, Some, None, if◌then◌else◌}
 use Rattle.std.specs.List.{list_any, list_all}
 use Rattle.std.specs.Str.{bytes_eq}
 use Rattle.ccr_choice.specs.declared.problem.TheConstants.{MOST_JOBS}
@@ -26,7 +26,7 @@ both_pass test (Some x) y = passes (test x) y
 
 -- Each number below n passes the test.
 abbrev pub all_below : (ℕ → Bool) → ℕ → Bool
-all_below test 0 = true
+all_below test zero = true
 all_below test (suc n) = all_below test n && test n
 
 -- ---- which build is a gate
