@@ -1,4 +1,8 @@
 //! A choice in which an input takes another place, with what has to change for it.
+ghost use Rattle.std.specs.Prelude.{◌≡◌, ◌<◌, ℕ, length, slice_index, IfOk, IfSome, IsSome};
+ghost use Rattle.ccr_choice.specs.Problem.{builds_at, input_at};
+ghost use Rattle.ccr_choice.specs.Satisfies.{Moved};
+ghost use Rattle.ccr_explain.specs.Cut.{build_in};
 
 use crate::copies::copied_choice;
 use crate::demand::Demand;
@@ -58,7 +62,9 @@ pub(crate) fn carried(
     followed: Followed<'_>,
     choice: &Choice,
     input: usize,
-) -> Result<Option<Choice>, AllocError> {
+) -> Result<Option<Choice>, AllocError>
+    ensures { IfOk result (λ found. IsSome found → 0 < length (input_at problem.now input).places) }
+{
     let Some(place) = newest_allowed(problem, input) else {
         return Ok(None);
     };
@@ -82,7 +88,9 @@ pub(crate) fn carried(
 }
 
 /// The newest place that an input may take.
-fn newest_allowed(problem: &Indexed<'_>, input: usize) -> Option<u32> {
+fn newest_allowed(problem: &Indexed<'_>, input: usize) -> Option<u32>
+    ensures { IsSome result → 0 < length (input_at problem.now input).places }
+{
     problem.inputs().get(input)?.places().last().copied()
 }
 
@@ -166,7 +174,10 @@ pub(crate) fn build_with(
     choice: &Choice,
     input: usize,
     job: usize,
-) -> Option<u32> {
+) -> Option<u32>
+    ensures { IfSome result (λ number. (k : ℕ) × (k < length (builds_at problem.now job))
+        × ((build_in (builds_at problem.now job) k).number ≡ number)) }
+{
     let scope = problem.inputs().get(input)?.scope();
     let place = *choice.places.get(input)?;
     if job >= problem.job_count() {
@@ -187,7 +198,10 @@ pub(crate) fn place_with(
     choice: &Choice,
     input: usize,
     job: usize,
-) -> Option<u32> {
+) -> Option<u32>
+    ensures { IfSome result (λ place. Moved (builds_at problem.now job) (slice_index choice.now.builds job)
+        ((input_at problem.now input).scope, place)) }
+{
     let scope = problem.inputs().get(input)?.scope();
     let number = *choice.builds.get(job)?;
     if job >= problem.job_count() {

@@ -1,4 +1,5 @@
 //! A choice found without a search, among what is left to the inputs of a problem.
+ghost use Rattle.std.specs.Prelude.{◌≡◌, length, IfOk};
 
 use crate::indexed::Indexed;
 use crate::narrow::Looked;
@@ -17,7 +18,10 @@ pub(crate) fn guessed(
     order: &[u32],
     inputs: &[Input],
     looked: &[Looked],
-) -> Result<Choice, AllocError> {
+) -> Result<Choice, AllocError>
+    ensures places { IfOk result (λ choice. length choice.places ≡ length inputs.now) }
+    ensures builds { IfOk result (λ choice. length choice.builds ≡ length problem.now.jobs) }
+{
     let mut places = vec![in alloc; 0; inputs.len()]?;
     let mut builds = vec![in alloc; 0; problem.job_count()]?;
     for one in looked {

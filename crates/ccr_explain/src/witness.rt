@@ -1,6 +1,6 @@
 //! Demands that are needed, found from choices that meet all others.
 
-ghost use Rattle.std.specs.Prelude.{◌≡◌, length, OnOk};
+ghost use Rattle.std.specs.Prelude.{◌≡◌, ◌<◌, ◌≤◌, Some, false, length, slice_get, slice_set, IsTrue, OnOk};
 ghost use Rattle.ccr_explain.specs.Reduced.{AreNeeded};
 
 use crate::carried::{Followed, build_with, carried, place_with};
@@ -108,7 +108,9 @@ fn input_allowed(demands: &[Demand], at: Option<usize>) -> Option<usize> {
 }
 
 /// Whether a demand names a job and has no mark.
-pub(crate) fn is_to_leave_out(demands: &[Demand], is_needed: &[bool], k: usize) -> bool {
+pub(crate) fn is_to_leave_out(demands: &[Demand], is_needed: &[bool], k: usize) -> bool
+    ensures { IsTrue result → slice_get is_needed.now k ≡ Some false }
+{
     matches!(
         (demands.get(k), is_needed.get(k)),
         (Some(Demand::Passed(_, _)), Some(false))
@@ -185,8 +187,11 @@ fn with_other_place(
 }
 
 /// Sets one of these numbers, if it is there.
-pub(crate) fn set(numbers: &mut [u32], at: usize, number: u32) {
-    if let Some(place) = numbers.get_mut(at) {
-        *place = number;
+pub(crate) fn set(numbers: &mut [u32], at: usize, number: u32)
+    ensures there { at < length numbers.old → numbers.new ≡ slice_set numbers.old at number }
+    ensures absent { length numbers.old ≤ at → numbers.new ≡ numbers.old }
+{
+    if at < numbers.len() {
+        numbers[at] = number;
     }
 }
