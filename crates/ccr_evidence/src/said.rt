@@ -1,5 +1,5 @@
 //! Whether what a receipt says is what the history has.
-ghost use Rattle.std.specs.Prelude.{◌≡◌, IsTrue, IfOk, length};
+ghost use Rattle.std.specs.Prelude.{◌≡◌, ◌==◌, ◌&&◌, IsTrue, IfOk, length};
 ghost use Rattle.std.specs.List.{list_any, list_all};
 ghost use Rattle.ccr_evidence.specs.Seen.{all_below};
 ghost use Rattle.ccr_evidence.specs.Said.{is_scope_said, is_resource_said, is_version_said, is_before_said, is_own_said, has_version, is_version_needed, is_said};
@@ -86,23 +86,36 @@ fn are_versions_said(
 
 // ---- nothing else
 
+fn has_taken(build: &Build, version: &Version) -> bool
+    ensures { result ≡ list_any (λ i. i.resource == version.now.resource && i.place == version.now.place) build.now.inputs }
+{
+    build.inputs.iter().any(|input| input.resource == version.resource
+        && input.place == version.place)
+}
+
+fn has_moved(build: &Build, version: &Version) -> bool
+    ensures { result ≡ list_any (λ q. q.0 == version.now.resource && q.1 == version.now.place) build.now.moved }
+{
+    build.moved.iter().any(|pair| pair.0 == version.resource && pair.1 == version.place)
+}
+
 /// Whether a build took a version, or moved it.
 fn has_version(version: &Version, build: &Build) -> bool
     ensures { result ≡ has_version version.now build.now }
 {
-    build.inputs.iter().any(|input| input.resource == version.resource
-        && input.place == version.place)
-        || build.moved.iter().any(|pair| pair.0 == version.resource && pair.1 == version.place)
+    has_taken(build, version) || has_moved(build, version)
+}
+
+fn some_has_version(version: &Version, builds: &[Build]) -> bool
+    ensures { result ≡ list_any (has_version version.now) builds.now }
+{
+    builds.iter().any(|build| has_version(version, build))
 }
 
 fn is_version_needed(receipt: &Receipt, version: &Version) -> bool
     ensures { result ≡ is_version_needed receipt.now version.now }
 {
-    receipt
-        .before
-        .iter()
-        .any(|build| has_version(version, build))
-        || has_version(version, &receipt.own)
+    some_has_version(version, &receipt.before) || has_version(version, &receipt.own)
 }
 
 fn are_versions_needed(receipt: &Receipt) -> bool

@@ -169,14 +169,18 @@ fn is_pair_said(resources: &[Resource], build: &BuildRef<'_>, number: u32, place
     build.moved().iter().any(|pair| is_scope_at(resources, number, pair.0) && pair.1 == place)
 }
 
+fn are_pairs_said(resources: &[Resource], pairs: &[(u32, u32)], build: &BuildRef<'_>) -> bool
+    ensures { result ≡ list_all (is_pair_said resources.now build.now) pairs.now }
+{
+    pairs
+        .iter()
+        .all(|pair| is_pair_said(resources, build, pair.0, pair.1))
+}
+
 fn are_moved_said(resources: &[Resource], said: &Build, build: &BuildRef<'_>) -> bool
     ensures { result ≡ are_moved_said resources.now said.now build.now }
 {
-    said.moved.len() == build.moved().len()
-        && said
-            .moved
-            .iter()
-            .all(|pair| is_pair_said(resources, build, pair.0, pair.1))
+    said.moved.len() == build.moved().len() && are_pairs_said(resources, &said.moved, build)
 }
 
 // ---- the build

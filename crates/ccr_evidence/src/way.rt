@@ -1,5 +1,5 @@
 //! Whether a way is that of what was used.
-ghost use Rattle.std.specs.Prelude.{◌≡◌, ◌==◌, IsTrue, slice_get, length};
+ghost use Rattle.std.specs.Prelude.{◌≡◌, IsTrue, slice_get, length, nat_lt};
 ghost use Rattle.std.specs.List.{list_any, list_all};
 ghost use Rattle.ccr_evidence.specs.Seen.{passes, all_below, may_be_gate, is_job_at, stands_for, is_gate, is_covered, is_covered_at, had_moved, has_number, agrees, are_movers, are_movers_at, is_seen, is_link, is_listed, is_kept, are_kept, is_way};
 
@@ -226,11 +226,18 @@ pub(crate) fn is_listed(way: &[Link], at: u32) -> bool
     way.iter().any(|link| link.at == at)
 }
 
+/// Whether each build of the way was made after a position.
+fn is_older(way: &[Link], at: u32) -> bool
+    ensures { result ≡ list_all (λ l. nat_lt at l.at) way.now }
+{
+    way.iter().all(|link| at < link.at)
+}
+
 /// Whether a gate is of the way, or the way is as long as a receipt's, and all of it newer.
 fn is_kept(way: &[Link], gate: u32) -> bool
     ensures { result ≡ is_kept way.now gate }
 {
-    is_listed(way, gate) || (way.len() == MOST_LISTED && way.iter().all(|link| gate < link.at))
+    is_listed(way, gate) || (way.len() == MOST_LISTED && is_older(way, gate))
 }
 
 fn are_kept(way: &[Link], link: &Link) -> bool
@@ -239,9 +246,15 @@ fn are_kept(way: &[Link], link: &Link) -> bool
     link.gates.iter().all(|gate| is_kept(way, *gate))
 }
 
+fn are_all_kept(way: &[Link]) -> bool
+    ensures { result ≡ list_all (are_kept way.now) way.now }
+{
+    way.iter().all(|link| are_kept(way, link))
+}
+
 /// Whether this is the way of what was used.
 pub(crate) fn is_way(history: &History, way: &[Link]) -> bool
     ensures { IsTrue result → IsTrue (is_way history.now.builds way.now) }
 {
-    are_links(history, way) && way.iter().all(|link| are_kept(way, link))
+    are_links(history, way) && are_all_kept(way)
 }

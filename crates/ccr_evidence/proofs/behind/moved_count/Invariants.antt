@@ -1,4 +1,4 @@
-use Rattle.std.proofs.Common.{◌≡◌, ◌≤◌, ◌×◌, take}
+use Rattle.std.proofs.Common.{◌≡◌, ◌≤◌, take}
 use Rattle.std.specs.Prelude.{count_by}
 use Rattle.ccr_evidence.specs.Seen.{has_used}
 use Rattle.ccr_evidence.proofs.behind.moved_count.Given as goal
