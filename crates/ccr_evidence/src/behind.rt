@@ -9,7 +9,6 @@ ghost use Rattle.ccr_evidence.specs.Seen.{passes, has_used, moved_count, may_be_
 use ccr_history::{BuildRef, Status};
 
 /// Whether a build used this place of this scope.
-#[tactic(auto, using(crate::proofs::Below::used_next, crate::proofs::Below::used_here))]
 pub(crate) fn has_used(build: &BuildRef<'_>, scope: u32, place: u32) -> bool
     ensures { result ≡ has_used build.now (scope, place) }
 {
