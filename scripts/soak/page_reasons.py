@@ -98,6 +98,18 @@ class Story:
             return words + (", and nothing newer has come" if by_itself else ", and only a command makes the next")
         return f"{words}; {self.holds_words(job['name'], inputs, told, by_itself)}"
 
+    def back(self, job, build, inputs):
+        """Why a job stays at an older version than it has built, though nothing holds it; None if it doesn't."""
+        took = {it["name"]: it for it in asked(self.db, "build", job["name"], build["name"])["inputs"]}
+        triggers = {it["name"] for it in job["inputs"] if it["trigger"]}
+        for taken in inputs:
+            old = took.get(taken["name"])
+            if taken["name"] in triggers and old and old["resource"] == taken["resource"] and old["place"] < taken["place"]:
+                of = f"{cut(taken['resource'], 40)} " if len(inputs) > 1 else ""
+                return "p", (f"stays at {of}{few(old['version'])}: build {build['name']} took it, though {few(taken['version'])} is newer and was built before; "
+                             "trigger-job builds that again")
+        return None
+
     def unmet(self, job, reason):
         """Why no choice satisfies the inputs of a job."""
         for get in job["inputs"]:
@@ -131,6 +143,8 @@ class Story:
         if build and build["status"] in BAD:
             return "x", self.bad(job, build, inputs, by_itself)
         worst, held = self.holds(inputs)
+        if worst is None and build and by_itself:
+            return self.back(job, build, inputs)
         if worst is None or not build and not by_itself:
             return None
         return worst, self.holds_words(job["name"], inputs, held, by_itself)

@@ -414,19 +414,23 @@ def pins(top):
 
 
 def held(top):
-    """A pin and a disabled version behind what is live, and beside builds that failed; in jobs of one input and of two."""
+    """A pin and a disabled version behind what is live, and beside builds that failed; in jobs of one input and of two; and a job that went back."""
     w = World(top, "held")
-    for name in ("app", "base", "tools"):
+    for name in ("app", "base", "tools", "chart"):
         w.versions(name, 1)
-    w.set([resource("app"), resource("base"), resource("tools")], [
+    w.set([resource("app"), resource("base"), resource("tools"), resource("chart")], [
         job("deploy", got("app"), task(0)), job("image", got("base"), task(100)), job("both", got("app"), got("tools"), task(0)),
-        job("by-hand", got("base", trigger=False), task(100))])
+        job("by-hand", got("base", trigger=False), task(100)), job("back", got("chart"), task(0))])
     w.run()
     w.ccr("trigger-job", "by-hand", fine=False)
+    w.versions("chart", 2)
     w.versions("app", 2)
     w.versions("tools", 2)
     w.run()
     w.ccr("pin-resource", "app", json.dumps({"ref": sha("app 1")}))
+    w.ccr("pin-resource", "chart", json.dumps({"ref": sha("chart 1")}))
+    w.ccr("trigger-job", "back")
+    w.ccr("unpin-resource", "chart")
     w.versions("base", 2)
     w.versions("tools", 3)
     w.ccr("check-resource", "base")

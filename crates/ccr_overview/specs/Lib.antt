@@ -5,6 +5,7 @@ pub mod Drawn
 pub mod Each
 pub mod Holds
 pub mod Linked
+pub mod Older
 pub mod Overviews
 pub mod PageBuilds
 pub mod PageData

@@ -20,6 +20,7 @@ use Rattle.ccr_page.specs.declared.data.Urgency.TheVariants as urgency
 use Rattle.ccr_overview.specs.Sayings.{version_word}
 use Rattle.ccr_overview.specs.PageData.{WordData, Plain, Cut, Named, ToRow, WhyData}
 use Rattle.ccr_overview.specs.Each.{each_from}
+use Rattle.ccr_overview.specs.Older.{back_why}
 use Rattle.ccr_overview.specs.PageRows.{used_for}
 use Rattle.ccr_overview.specs.Scenes.{SceneData, ToldData}
 use Rattle.ccr_overview.specs.Shorts.{version_there}
@@ -151,10 +152,15 @@ abbrev pub held_why : SceneData → Bool → ToldData → Option WhyData
 held_why s by_itself t =
     held_by s (live_of t.job.name s.history) by_itself t.explained.inputs (holds s t.explained.inputs)
 
+-- WHAT HOLDS A JOB whose newest build succeeded; if nothing does, and schedules build it, the older version that it is at
+abbrev pub good_why : SceneData → ℕ → ToldData → Bool → BuildData → Option WhyData → Option WhyData
+good_why s k t by_itself b (Some why) = Some why
+good_why s k t by_itself b None = if by_itself then back_why s k t b else None
+
 -- why it has no newer build, where its newest one has ended so
 abbrev pub ended_why : SceneData → ℕ → ToldData → Bool → BuildData → Option WhyData
 ended_why s k t by_itself b =
-    if is_bad b.status then Some (bad_why s k t by_itself b) else held_why s by_itself t
+    if is_bad b.status then Some (bad_why s k t by_itself b) else good_why s k t by_itself b (held_why s by_itself t)
 
 -- the same of a job that may have no build: nothing is said of one that only a command builds
 abbrev pub standing_why : SceneData → ℕ → ToldData → Bool → Option BuildData → Option WhyData

@@ -19,6 +19,7 @@ mod hold;
 mod job;
 mod law;
 mod linked;
+mod older;
 mod options;
 mod page;
 mod resource;

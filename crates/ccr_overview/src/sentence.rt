@@ -9,9 +9,10 @@ ghost use Rattle.ccr_overview.specs.Holds.{hold_data, holds, urgent_ones};
 ghost use Rattle.ccr_overview.specs.PageData.{Plain, word_data, why_data};
 ghost use Rattle.ccr_overview.specs.Scenes.{told_data, scene_data};
 ghost use Rattle.ccr_overview.specs.PageRows.{used_for};
-ghost use Rattle.ccr_overview.specs.Sentences.{build_row, running_why, only, due_of, due_words, none_why, budget_words, took_same, stays, start_words, told_hold, more_words, holds_words, is_bad, took_on, on_words, stopped_words, bad_words, alone_words, beside_words, bad_why, held_why, ended_why, standing_why, outlook_why, why_of};
+ghost use Rattle.ccr_overview.specs.Sentences.{build_row, running_why, only, due_of, due_words, none_why, budget_words, took_same, stays, start_words, told_hold, more_words, holds_words, is_bad, took_on, on_words, stopped_words, bad_words, alone_words, beside_words, bad_why, held_why, good_why, ended_why, standing_why, outlook_why, why_of};
 
 use crate::hold::{Hold, holds, push_hold_words, push_resource, urgent_holds, worst};
+use crate::older::back_why;
 use crate::row::used_for;
 use crate::scene::{Scene, Told};
 use crate::short::push_version;
@@ -474,6 +475,31 @@ fn held_why(
     Ok(Some(why))
 }
 
+/// What holds a job whose newest build succeeded, if something does; otherwise the older version that it stays at.
+fn good_why(
+    alloc: Global,
+    scene: &Scene<'_>,
+    at: usize,
+    told: &Told<'_>,
+    by_itself: bool,
+    build: &BuildRef<'_>,
+    held: Option<Why>,
+) -> Result<Option<Why>, AllocError>
+    ensures { IfOk result (λ why. option_map why_data why
+        ≡ good_why (scene_data scene.now) at (told_data told.now) by_itself build.now (option_map why_data held)) }
+{
+    match held {
+        Some(why) => Ok(Some(why)),
+        None => {
+            if by_itself {
+                back_why(alloc, scene, at, told, build)
+            } else {
+                Ok(None)
+            }
+        }
+    }
+}
+
 /// Why a job has no newer build, where its newest one has ended.
 fn ended_why(
     alloc: Global,
@@ -490,7 +516,8 @@ fn ended_why(
         let why = bad_why(alloc, scene, at, told, by_itself, build)?;
         return Ok(Some(why));
     }
-    held_why(alloc, scene, by_itself, told)
+    let held = held_why(alloc, scene, by_itself, told)?;
+    good_why(alloc, scene, at, told, by_itself, build, held)
 }
 
 /// The same of a job that may have no build: nothing is said of one that only a command builds.
