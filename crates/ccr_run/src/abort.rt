@@ -165,7 +165,8 @@ fn hint_in<'a>(order: &AbortOrder<'a>, end: &Result<bool, AbortFault>) -> Option
         Ok(true) | Err(AbortFault::NoMemory) => return None,
         Ok(false) => (
             Some(order.build.job),
-            "by what --work shows, this build doesn't run now: builds --job JOB --look says whether it is there. It is aborted when it comes; rmdir WORK/JOB/abort-N takes that back",
+            "by what --work shows, this build doesn't run now: builds --job JOB --look says whether it is there. It \
+             is aborted when it comes; rmdir WORK/JOB/abort-N takes that back",
         ),
         Err(AbortFault::NoJob) => (
             None,
@@ -173,7 +174,8 @@ fn hint_in<'a>(order: &AbortOrder<'a>, end: &Result<bool, AbortFault>) -> Option
         ),
         Err(AbortFault::NotWritten) => (
             Some(order.options.work),
-            "may a directory be made in it? abort-build is for the user whose ccr_run runs the build, with the same --work",
+            "may a directory be made in it? abort-build is for the user whose ccr_run runs the build, with the same \
+             --work",
         ),
     };
     Some(Hint { path, words })

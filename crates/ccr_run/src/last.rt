@@ -101,7 +101,9 @@ fn tell_silent<E: Write>(errors: &mut Errors<E>, build: Option<&str>)
 {
     if let Some(build) = build {
         errors.say(format_args!(
-            "hint: {build}: no line says why it errored. A task may have an input that no step before it gives: of the pipeline's own tasks ccr_run validate-pipeline FILE names it; of a task's file, compare its inputs with the gets and outputs before it"
+            "hint: {build}: no line says why it errored. A task may have an input that no step before it gives: of \
+             the pipeline's own tasks ccr_run validate-pipeline FILE names it; of a task's file, compare its inputs \
+             with the gets and outputs before it"
         ));
     }
 }
@@ -113,7 +115,8 @@ fn tell_untraced<E: Write>(errors: &mut Errors<E>, words: &[String], is_done: bo
 {
     if is_done && !printed.is_used && has_word(words, "trace") {
         errors.say(
-            "hint: no build has taken or moved this version: resource-versions NAME shows which there are, and how they are written",
+            "hint: no build has taken or moved this version: resource-versions NAME shows which there are, and how \
+             they are written",
         );
     }
 }

@@ -121,7 +121,8 @@ pub fn tell<'e, E: Write>(telling: &mut Telling<'e, E>, order: &Order<'e>, outco
 
 /// About a word that isn't known.
 const UNKNOWN_WORD: &str =
-    "hint: names stand alone, without -j, -r or the like; --db, --types, --work, --launcher and --budget stand before the command; ccr_run COMMAND --help has what stands behind it";
+    "hint: names stand alone, without -j, -r or the like; --db, --types, --work, --launcher and --budget stand \
+     before the command; ccr_run COMMAND --help has what stands behind it";
 
 /// About a command that isn't known.
 const UNKNOWN_COMMAND: &str =
@@ -182,7 +183,8 @@ fn no_command(words: &[String]) -> &'static str
     ensures { result.now ≡ spec.no_command (map string_bytes words.now) }
 {
     if has_word(words, VALIDATE) {
-        "error: validate-pipeline needs no database, so no option stands before it: ccr_run validate-pipeline FILE [--strict]"
+        "error: validate-pipeline needs no database, so no option stands before it: ccr_run validate-pipeline FILE \
+         [--strict]"
     } else {
         "error: no command\n\nFor more information, try '--help'."
     }

@@ -11,7 +11,8 @@ const LIST: &str =
 
 /// What a get's or a put's program has to print.
 const REPLY: &str =
-    "a get's or put's program prints an object with its version on standard output, as {\"version\":{\"ref\":\"61cbef\"}}, and nothing else there";
+    "a get's or put's program prints an object with its version on standard output, as \
+     {\"version\":{\"ref\":\"61cbef\"}}, and nothing else there";
 
 /// What a version has to be.
 const TEXTS: &str = "a version's values are texts: {\"number\":\"4\"}, not {\"number\":4}";
@@ -131,24 +132,31 @@ impl Topic {
             Topic::CheckNotText | Topic::StepNotText => TEXTS,
             Topic::CheckFolder | Topic::StepFolder => WORK,
             Topic::NoneSatisfies =>
-                "nothing is there that passed the jobs before it, and that no pin leaves out and nobody disabled: explain JOB says more, check-resource NAME looks for new versions",
+                "nothing is there that passed the jobs before it, and that no pin leaves out and nobody disabled: \
+                 explain JOB says more, check-resource NAME looks for new versions",
             Topic::NoneAllowed =>
-                "an allowed version meets each pin, and nobody disabled it; with passed beside it, none of these has passed. resource-versions NAME shows versions, resources the pins; check-resource NAME looks for more",
+                "an allowed version meets each pin, and nobody disabled it; with passed beside it, none of these has \
+                 passed. resource-versions NAME shows versions, resources the pins; check-resource NAME looks for \
+                 more",
             Topic::NonePassed =>
-                "no build of the job behind passed has succeeded with a version that is allowed here: explain that job, too. If two jobs wait for each other, ccr_run validate-pipeline FILE names them",
+                "no build of the job behind passed has succeeded with a version that is allowed here: explain that \
+                 job, too. If two jobs wait for each other, ccr_run validate-pipeline FILE names them",
             Topic::BuildErrored =>
-                "why it errored was said on standard error as it ended: ccr log JOB N shows that, where ccr keeps logs (examples/operating)",
+                "why it errored was said on standard error as it ended: ccr log JOB N shows that, where ccr keeps \
+                 logs (examples/operating)",
             Topic::StepNotJson | Topic::StepWrongKind | Topic::StepNoVersion => REPLY,
             Topic::FileNotJson =>
                 "a task's file is JSON: examples/operating/pipeline-json --task FILE makes it of YAML",
             Topic::FileUnread =>
-                "a task's file is named by its path in the build's directory, as repo/unit.json, and is that of the version that the build got: is it in there?",
-            Topic::NoTask =>
-                "a task's file has what a task's config has, as {\"inputs\":[{\"name\":\"repo\"}],\"run\":{\"path\":\"make\",\"args\":[\"test\"]}}",
+                "a task's file is named by its path in the build's directory, as repo/unit.json, and is that of the \
+                 version that the build got: is it in there?",
+            Topic::NoTask => "a task's file has what a task's config has, as \
+                 {\"inputs\":[{\"name\":\"repo\"}],\"run\":{\"path\":\"make\",\"args\":[\"test\"]}}",
             Topic::StepNotStarted =>
                 "is it there, and executable, and is the program of its first line (#!) there?",
             Topic::TaskNotStarted =>
-                "is it there, and executable, is the program of its first line (#!), and is run.dir? run.path is one program; its arguments belong into run.args",
+                "is it there, and executable, is the program of its first line (#!), and is run.dir? run.path is one \
+                 program; its arguments belong into run.args",
             Topic::StepStatus =>
                 "what a program prints on standard output isn't shown; what it prints on standard error is (>&2)",
         }
