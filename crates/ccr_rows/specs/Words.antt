@@ -1,5 +1,5 @@
 -- What the words of lines stand for.
-use Rattle.std.specs.Prelude.{◌==◌, ℕ, codes, if◌then◌else◌}
+use Rattle.std.specs.Prelude.{◌==◌, ◌++◌, ℕ, codes, decimal, if◌then◌else◌}
 use Rattle.std.specs.List.{before_first, after_first}
 use Rattle.std.specs.Str.{bytes_eq}
 use Rattle.std.specs.Str.Parse.{digits_value, without_leading_plus}
@@ -23,6 +23,10 @@ behind byte text = after_first (λ b. b == byte) text
 -- the number that digits write, where a plus may stand first
 abbrev pub number_in : Text → ℕ
 number_in word = digits_value 10 (without_leading_plus word)
+
+-- the text of a version with one field `n`, a number in digits
+abbrev pub numbered_text : ℕ → Text
+numbered_text number = codes "{\"n\":\"" ++ decimal number ++ codes "\"}"
 
 -- how a build stands, in a word
 abbrev pub status_word : Status → Text

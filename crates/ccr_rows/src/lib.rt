@@ -35,5 +35,5 @@ pub use program::{Answer, Given, OVER_BUDGET, Order, play_input, tell};
 pub use told::Told;
 pub use words::{
     number_of, numbered, outcome_name, pair_of, pin_of, scope_in, split, status_name, status_of,
-    turn_of, value_of, version_of,
+    turn_of, value_of, version_numbered, version_of,
 };

@@ -8,7 +8,7 @@ ghost use Rattle.ccr_history.specs.declared.build.Status.TheVariants.{Running};
 ghost use Rattle.ccr_pipeline.specs.JobData.{scope_of};
 ghost use Rattle.ccr_pipeline.specs.Named.{resource_of};
 ghost use Rattle.ccr_pipeline.specs.Pipelines.{pipeline_data};
-ghost use Rattle.ccr_rows.specs.Words.{before, behind, number_in, status_word, outcome_word};
+ghost use Rattle.ccr_rows.specs.Words.{before, behind, number_in, numbered_text, status_word, outcome_word};
 
 use crate::fault::LineFault;
 use crate::from_words::FromWords;
@@ -113,7 +113,10 @@ impl FromWords for Vec<Version> {
 }
 
 /// The version `{"n":"NUMBER"}`.
-fn version_numbered(alloc: Global, number: u64) -> Result<Version, LineFault> {
+pub fn version_numbered(alloc: Global, number: u64) -> Result<Version, LineFault>
+    ensures { IfOk result (λ version.
+        option_and_then text_map_of (read_text (numbered_text number)) ≡ Some version) }
+{
     let text = format!(in alloc; "{{\"n\":\"{number}\"}}")?;
     version_of(alloc, text.as_str())
 }
