@@ -5,11 +5,12 @@ ghost use Rattle.ccr_pipeline.specs.Inputs.{input_data, inputs};
 ghost use Rattle.ccr_pipeline.specs.JobData.{job_data};
 ghost use Rattle.ccr_lines.specs.Lines.{status_word};
 ghost use Rattle.ccr_overview.specs.Each.{each_from};
+ghost use Rattle.ccr_lines.specs.Live.{live_of};
 ghost use Rattle.ccr_overview.specs.Holds.{hold_data, holds, urgent_ones};
 ghost use Rattle.ccr_overview.specs.PageData.{Plain, word_data, why_data};
 ghost use Rattle.ccr_overview.specs.Scenes.{told_data, scene_data};
 ghost use Rattle.ccr_overview.specs.PageRows.{used_for};
-ghost use Rattle.ccr_overview.specs.Sentences.{build_row, running_why, only, due_of, due_words, none_why, budget_words, took_same, stays, start_words, told_hold, more_words, holds_words, is_bad, took_on, on_words, stopped_words, bad_words, alone_words, beside_words, bad_why, held_why, ended_why, standing_why, outlook_why, why_of};
+ghost use Rattle.ccr_overview.specs.Sentences.{build_row, running_why, only, due_of, due_words, none_why, budget_words, took_same, stays, start_words, told_hold, more_words, holds_words, is_bad, took_on, on_words, stopped_words, bad_words, alone_words, beside_words, bad_why, held_by, held_why, ended_why, standing_why, outlook_why, why_of};
 
 use crate::hold::{Hold, holds, push_hold_words, push_resource, urgent_holds, worst};
 use crate::row::used_for;
@@ -383,6 +384,25 @@ fn alone_words(by_itself: bool) -> &'static str
     }
 }
 
+/// Adds what holds inputs of a job that are so urgent, behind a semicolon.
+fn push_further(
+    alloc: Global,
+    out: &mut Vec<Word>,
+    scene: &Scene<'_>,
+    live: Option<&BuildRef<'_>>,
+    by_itself: bool,
+    inputs: &[Taken],
+    urgency: Urgency,
+) -> Result<(), AllocError>
+    ensures { let s = scene_data scene.now in let ts = inputs.now in
+        OnOk result (map word_data out.new.items ≡ map word_data out.old.items
+        ++ Plain (codes "; ") ∷ holds_words s (option_copied live.entry) (nat_lt 1 (length ts)) by_itself
+        (urgent_ones urgency (holds s ts))) }
+{
+    push_plain(alloc, out, "; ")?;
+    push_urgent(alloc, out, scene, live, by_itself, inputs, urgency)
+}
+
 /// Adds what else holds a job, pins and the like included; or that nothing holds an input of it.
 fn push_beside(
     alloc: Global,
@@ -396,12 +416,44 @@ fn push_beside(
         OnOk result (map word_data out.new.items ≡ map word_data out.old.items
         ++ beside_words s (option_copied live.entry) by_itself ts (holds s ts)) }
 {
-    let found = holds(alloc, scene, inputs)?;
-    if found.is_empty() {
+    let all = holds(alloc, scene, inputs)?;
+    if all.is_empty() {
         return push_plain(alloc, out, alone_words(by_itself));
     }
-    push_plain(alloc, out, "; ")?;
-    push_urgent(alloc, out, scene, live, by_itself, inputs, worst(&found))
+    push_further(alloc, out, scene, live, by_itself, inputs, worst(&all))
+}
+
+/// The newest good build of a job.
+fn live_of<'h>(scene: &Scene<'h>, told: &Told<'_>) -> Option<BuildRef<'h>>
+    ensures { result ≡ live_of (told_data told.now).job.name (scene_data scene.now).history }
+{
+    newest_of(scene.history, Sought::Succeeded, told.job.name.as_str())
+}
+
+/// That a job's newest build wasn't good, where this is its newest good one.
+fn bad_beside(
+    alloc: Global,
+    scene: &Scene<'_>,
+    at: usize,
+    told: &Told<'_>,
+    live: Option<&BuildRef<'_>>,
+    by_itself: bool,
+    build: &BuildRef<'_>,
+) -> Result<Vec<Word>, AllocError>
+    ensures { let s = scene_data scene.now in let t = told_data told.now in
+        IfOk result (λ words. map word_data words.items ≡ bad_words s.history at t.job build.now
+        ++ beside_words s (option_copied live.entry) by_itself t.explained.inputs (holds s t.explained.inputs)) }
+{
+    let mut words = bad_words(alloc, scene.history, at, told.job, build)?;
+    push_beside(
+        alloc,
+        &mut words,
+        scene,
+        live,
+        by_itself,
+        &told.explained.inputs,
+    )?;
+    Ok(words)
 }
 
 /// That a job's newest build wasn't good.
@@ -416,16 +468,8 @@ fn bad_why(
     ensures { IfOk result (λ why. why_data why
         ≡ bad_why (scene_data scene.now) at (told_data told.now) by_itself build.now) }
 {
-    let live = newest_of(scene.history, Sought::Succeeded, told.job.name.as_str());
-    let mut words = bad_words(alloc, scene.history, at, told.job, build)?;
-    push_beside(
-        alloc,
-        &mut words,
-        scene,
-        live.as_ref(),
-        by_itself,
-        &told.explained.inputs,
-    )?;
+    let live = live_of(scene, told);
+    let words = bad_beside(alloc, scene, at, told, live.as_ref(), by_itself, build)?;
     Ok(Why {
         urgency: Urgency::Stopped,
         words,
@@ -454,6 +498,26 @@ fn urgent_why(
     Ok(Why { urgency, words })
 }
 
+/// What holds the inputs of a job with this newest good build, if something does.
+fn held_by(
+    alloc: Global,
+    scene: &Scene<'_>,
+    live: Option<&BuildRef<'_>>,
+    by_itself: bool,
+    inputs: &[Taken],
+) -> Result<Option<Why>, AllocError>
+    ensures { let s = scene_data scene.now in let ts = inputs.now in
+        IfOk result (λ why. option_map why_data why
+        ≡ held_by s (option_copied live.entry) by_itself ts (holds s ts)) }
+{
+    let all = holds(alloc, scene, inputs)?;
+    if all.is_empty() {
+        return Ok(None);
+    }
+    let why = urgent_why(alloc, scene, live, by_itself, inputs, worst(&all))?;
+    Ok(Some(why))
+}
+
 /// What holds the inputs of a job, if something does.
 fn held_why(
     alloc: Global,
@@ -464,14 +528,14 @@ fn held_why(
     ensures { IfOk result (λ why. option_map why_data why
         ≡ held_why (scene_data scene.now) by_itself (told_data told.now)) }
 {
-    let inputs = &told.explained.inputs;
-    let all = holds(alloc, scene, inputs)?;
-    if all.is_empty() {
-        return Ok(None);
-    }
-    let live = newest_of(scene.history, Sought::Succeeded, told.job.name.as_str());
-    let why = urgent_why(alloc, scene, live.as_ref(), by_itself, inputs, worst(&all))?;
-    Ok(Some(why))
+    let live = live_of(scene, told);
+    held_by(
+        alloc,
+        scene,
+        live.as_ref(),
+        by_itself,
+        &told.explained.inputs,
+    )
 }
 
 /// Why a job has no newer build, where its newest one has ended.
