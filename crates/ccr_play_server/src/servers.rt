@@ -245,7 +245,8 @@ impl Servers {
     /// Opens a server over the script; another script begins.
     fn open(&mut self, alloc: Global) -> Result<u8, ServeFault> {
         self.has_notes = self.script.has_notes;
-        let (Ok(tape), Ok(mut out)) = (self.tape.clone(), self.out(alloc)) else {
+        let tape: Result<Tape, AllocError> = self.tape.clone();
+        let (Ok(tape), Ok(mut out)) = (tape, self.out(alloc)) else {
             return Err(ServeFault::NoMemory);
         };
         let script = mem::replace(&mut self.script, Script::new(alloc));
