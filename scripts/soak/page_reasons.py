@@ -70,10 +70,17 @@ class Story:
         worst = next((kind for kind in "xpr" if any(it[2] == kind for it in found)), None)
         return worst, [it for it in found if it[2] == worst]
 
-    def holds_words(self, inputs, told, by_itself):
-        words = ""
+    def live(self, name):
+        """What the newest build of a job that succeeded took, each as (input, resource, place)."""
+        good = self.good.get(name)
+        return {(it["name"], it["resource"], it["place"]) for it in asked(self.db, "build", name, good["name"])["inputs"]} if good else set()
+
+    def holds_words(self, name, inputs, told, by_itself):
+        live, words = self.live(name), "" if by_itself else "is built by command only; the next build would take "
         for k, (taken, newer, _, reason) in enumerate(told[:3]):
-            words += (("stays at ", "; at ") if by_itself else ("is built by command only; the next build would take ", "; "))[k > 0]
+            words += "; " if k else ""
+            if by_itself:
+                words += "stays at " if (taken["name"], taken["resource"], taken["place"]) in live else "would take "
             words += f"{cut(taken['resource'], 40)} " if len(inputs) > 1 else ""
             words += f"{few(taken['version'])}: {reason}"
         return words + (f"; and {len(told) - 3} more" if len(told) > 3 else "")
@@ -87,9 +94,9 @@ class Story:
         if on:
             words += f" on {cut(on[0]['name'], 40) + ' ' if len(took) > 1 else ''}{few(on[0]['version'])}"
         worst, told = self.holds(inputs)
-        if worst in (None, "p"):
+        if worst is None:
             return words + (", and nothing newer has come" if by_itself else ", and only a command makes the next")
-        return f"{words}; {self.holds_words(inputs, told, by_itself)}"
+        return f"{words}; {self.holds_words(job['name'], inputs, told, by_itself)}"
 
     def unmet(self, job, reason):
         """Why no choice satisfies the inputs of a job."""
@@ -126,7 +133,7 @@ class Story:
         worst, held = self.holds(inputs)
         if worst is None or not build and not by_itself:
             return None
-        return worst, self.holds_words(inputs, held, by_itself)
+        return worst, self.holds_words(job["name"], inputs, held, by_itself)
 
     def red(self):
         """The lines, as (job, port, source), of which the newest version stopped at a job that the input names, in a build that has ended: those are red."""

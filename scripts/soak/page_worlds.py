@@ -1,6 +1,6 @@
 """Databases for the tests of pages.
 
-A world is a pipeline with a history that bin/ccr_run has made, with programs that answer at once: fourteen are of pipelines as teams have them, two of
+A world is a pipeline with a history that bin/ccr_run has made, with programs that answer at once: fifteen are of pipelines as teams have them, two of
 texts and sizes that nobody has. A database that `written` makes is written at once, as docs/FORMATS.md says: without a program.
 """
 import hashlib
@@ -413,6 +413,29 @@ def pins(top):
     return w.db
 
 
+def held(top):
+    """A pin and a disabled version behind what is live, and beside builds that failed; in jobs of one input and of two."""
+    w = World(top, "held")
+    for name in ("app", "base", "tools"):
+        w.versions(name, 1)
+    w.set([resource("app"), resource("base"), resource("tools")], [
+        job("deploy", got("app"), task(0)), job("image", got("base"), task(100)), job("both", got("app"), got("tools"), task(0)),
+        job("by-hand", got("base", trigger=False), task(100))])
+    w.run()
+    w.ccr("trigger-job", "by-hand", fine=False)
+    w.versions("app", 2)
+    w.versions("tools", 2)
+    w.run()
+    w.ccr("pin-resource", "app", json.dumps({"ref": sha("app 1")}))
+    w.versions("base", 2)
+    w.versions("tools", 3)
+    w.ccr("check-resource", "base")
+    w.ccr("check-resource", "tools")
+    w.ccr("disable-resource-version", "base", 2)
+    w.ccr("disable-resource-version", "tools", 3)
+    return w.db
+
+
 def cycle(top):
     """Jobs that wait for one another, and for themselves."""
     w = World(top, "cycle")
@@ -481,5 +504,5 @@ def loops(top):
 
 
 WORLDS = {"deploy": deploy, "four": four, "fan": fan, "running": running, "sixty": sixty, "limit": limit, "names": names, "empty": empty,
-          "no-pipeline": no_pipeline, "fresh": fresh, "many": many, "pins": pins, "cycle": cycle, "train": train, "wide": wide, "loops": loops}
-SMALL = ["deploy", "empty", "no-pipeline", "fresh", "pins", "cycle"]
+          "no-pipeline": no_pipeline, "fresh": fresh, "many": many, "pins": pins, "held": held, "cycle": cycle, "train": train, "wide": wide, "loops": loops}
+SMALL = ["deploy", "empty", "no-pipeline", "fresh", "pins", "held", "cycle"]

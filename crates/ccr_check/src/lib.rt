@@ -9,8 +9,9 @@
 //! The checker takes no memory. It keeps the fixed builds in a table of 32 entries, copied at each child of a job node, and looks
 //! for an input's best place among the pairs of the builds that each possible place must have passed.
 //!
-//! A proof in which no node is the same as another is accepted while its text is read, without its tree in memory. Every other text,
-//! and one in which something is wrong, is read as a tree, and [`check`] says which fault is the first.
+//! A proof in which no node is the same as another is accepted while its text is read, without its tree in memory.
+//! Every other text, and one in which something is wrong, is read as a tree, and [`check`] says which fault is the
+//! first.
 //!
 //! [`judge`] does the same from bytes to bytes. It is given the text of a problem, followed by that of a proof or of a claim, and
 //! says in one line what is to be thought of it (`specs/Judged.antt`, `specs/Accepted.antt`). [`read_whole`] and

@@ -14,9 +14,9 @@
 //! A problem has one text and each text one problem: [`write_problem`], [`read_problem`]. A text is refused with the first
 //! line that breaks a rule.
 //!
-//! Problems, claims and proofs are lines of words, with one spelling for each (`specs/Text.antt`). A line is words with one blank between
-//! two of them and a line feed. [`Lines`] gives a text's lines from the top, one at a time; a reader that stops says by [`Stop`] how many
-//! lines were left.
+//! Problems, claims and proofs are lines of words, with one spelling for each (`specs/Text.antt`). A line is words with
+//! one blank between two of them and a line feed. [`Lines`] gives a text's lines from the top, one at a time; a reader
+//! that stops says by [`Stop`] how many lines were left.
 #![tactic(auto)]
 
 mod choice;

@@ -124,7 +124,8 @@ fn is_better(after: Option<u32>, place: u32, best: Option<u32>) -> bool
 fn up_to(after: Option<u32>, pairs: &[(u32, u32)], scope: u32) -> usize
     requires { AreAscending pairs.now }
     ensures within { result ≤ length pairs.now }
-    ensures parted { IsPartitionPoint (λ q. is_up_to after scope q ≡ true) (λ q. is_up_to after scope q ≡ false) pairs.now result }
+    ensures parted { IsPartitionPoint
+        (λ q. is_up_to after scope q ≡ true) (λ q. is_up_to after scope q ≡ false) pairs.now result }
 {
     match after {
         Some(kept) => pairs.partition_point(|q| q.0 < scope || (q.0 == scope && q.1 <= kept)),

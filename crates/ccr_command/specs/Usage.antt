@@ -62,6 +62,7 @@ IsCommand name arguments c = (shape_of c ≡ command_shape name arguments) × ((
 abbrev pub resource_commands : List Shape
 resource_commands =
     command_shape (codes "set-pipeline") (value_rule (codes "FILE") ∷ [])
+    ∷ command_shape (codes "validate-pipeline") (value_rule (codes "FILE") ∷ flag_rule (codes "strict") ∷ [])
     ∷ command_shape (codes "check-resource") (value_rule (codes "NAME") ∷ [])
     ∷ command_shape (codes "resource-versions")
     (value_rule (codes "NAME") ∷ flag_rule (codes "json") ∷ look_rule ∷ [])

@@ -1,8 +1,8 @@
 //! The commands, with their help.
 ghost use Rattle.std.specs.Prelude.{◌≡◌, ◌∷◌, [], false, IfOk, codes};
-ghost use Rattle.ccr_command.specs.Usage.{IsCommand, value_rule, required_rule, look_rule, as_number};
+ghost use Rattle.ccr_command.specs.Usage.{IsCommand, value_rule, required_rule, flag_rule, look_rule, as_number};
 
-use crate::argument::{as_number, look, required, value};
+use crate::argument::{as_number, flag, look, required, value};
 use clap::Command;
 use std::alloc::{AllocError, Global};
 
@@ -41,6 +41,41 @@ Example:
   ccr_run --db ci.db set-pipeline pipeline.json",
     )
     .arg(file)
+}
+
+/// The rest of the help of `validate-pipeline`.
+const VALIDATE: &str = "\
+Prints what each input has to have passed, keys that look misspelled, what can never happen, and each key that has no effect.
+Of a file that is refused it prints all faults. It needs no database, so no option stands before it.
+
+Exit statuses: 0 nothing is wrong; 1 the file has a fault (its path is printed), a key that looks misspelled or something that
+can never happen, or with --strict a key that has no effect; 2 usage; 4 the file can't be read, or the disk or the memory failed.
+
+Example:
+  ccr_run validate-pipeline pipeline.json";
+
+/// The command `validate-pipeline` without its arguments. No option of the program stands before it.
+fn bare_validation<'a>(alloc: Global) -> Command<'a>
+    ensures { IsCommand (codes "validate-pipeline") [] result }
+{
+    Command::new(alloc, "validate-pipeline")
+        .about("Says what is in a pipeline's file, and what is wrong with it; needs no database")
+        .override_usage("ccr_run validate-pipeline <FILE> [--strict]")
+        .after_help(VALIDATE)
+}
+
+/// Says what is in a pipeline's file. The program does it before it reads its other words; here it has its help.
+pub(crate) fn validate_pipeline<'a>(alloc: Global) -> Result<Command<'a>, AllocError>
+    ensures { IfOk result (IsCommand (codes "validate-pipeline")
+        (value_rule (codes "FILE") ∷ flag_rule (codes "strict") ∷ [])) }
+{
+    let file = value(alloc, "FILE", "The file, of at most 1 MiB");
+    let strict = flag(
+        alloc,
+        "strict",
+        "Ends with status 1 for a key that has no effect, too",
+    );
+    bare_validation(alloc).arg(file)?.arg(strict)
 }
 
 /// Checks a resource.

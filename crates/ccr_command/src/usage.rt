@@ -6,7 +6,7 @@ ghost use Rattle.ccr_command.specs.Usage.{program, options_line, with_all, resou
 use crate::argument::{as_number, option, optional, required};
 use crate::commands::{
     abort_build, check_resource, pin_resource, problem, resolve, run, set_pipeline, trigger_job,
-    unpin_resource,
+    unpin_resource, validate_pipeline,
 };
 use crate::reading::{
     build, builds, certify, explain, get_pipeline, graph, jobs, live, page, red, resource_versions,
@@ -25,7 +25,6 @@ const MORE: &str = "\
 Options come before the command, its arguments after it; ccr_run help COMMAND describes them.
 Exit statuses: 0 done; 1 refused, or not succeeded; 2 usage; 3 over the budget; 4 the disk or the memory failed.
 What happens is printed on standard output, line by line; a refusal goes to standard error.
-`ccr_run validate-pipeline FILE [--strict]` reads a pipeline without a database, and says what each input has to have passed.
 A command that only shows something takes --look: it shows what is stored now, also while another ccr_run has the
 database open, and changes nothing. A copy of FILE without FILE-wal beside it shows an older state.
 
@@ -94,6 +93,7 @@ fn with_resource_commands<'a>(alloc: Global, line: Command<'a>) -> Result<Comman
     ensures { IfOk result (λ made. app_of made ≡ with_all (app_of line.entry) resource_commands) }
 {
     let line = line.subcommand(set_pipeline(alloc)?)?;
+    let line = line.subcommand(validate_pipeline(alloc)?)?;
     let line = line.subcommand(check_resource(alloc)?)?;
     let line = line.subcommand(resource_versions(alloc)?)?;
     let line = line.subcommand(pin_resource(alloc)?)?;

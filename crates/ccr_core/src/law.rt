@@ -28,7 +28,9 @@ pub fn each_is_made_best()
     ensures all { EachIsMadeSo }
     ensures stays { UsedStays }
     ensures none { NoneIsSaidRightly }
-{}
+{
+    // Nothing runs.
+}
 
 /// Whatever events come, from a state in which nothing runs: what a build that runs fetches next is the version at the place that
 /// the history's build used for the input of this name, or one that it has pushed.
@@ -36,11 +38,13 @@ pub fn each_is_made_best()
 /// It is a law over the definitions alone; nothing runs.
 pub fn each_fetches_what_it_used()
     ensures { EachFetchesWhatItUsed }
-{}
+{
+    // Nothing runs.
+}
 
-/// Whatever events come, from a state in which nothing runs: a build that ends, other than by a restart, has moved only places that
-/// it used for inputs of its job's plan, and whose versions it fetched, and places of versions that it pushed. So each build that
-/// has succeeded in the history after them had succeeded before them, or moved only these.
+/// Whatever events come, from a state in which nothing runs: a build that ends, other than by a restart, has moved only
+/// places that it used for inputs of its job's plan, and whose versions it fetched, and places of versions that it
+/// pushed. So each build that has succeeded in the history after them had succeeded before them, or moved only these.
 ///
 /// It is a law over the definitions alone; nothing runs.
 pub fn each_moves_its_own()
@@ -49,7 +53,9 @@ pub fn each_moves_its_own()
 
     // Over a list of events.
     ensures moves { EachMovesItsOwn }
-{}
+{
+    // Nothing runs.
+}
 
 /// Whatever events come, from a state in which nothing runs: each build that runs has had the answers that were
 /// addressed to it and not refused, in order, and no others. Its plan is that of its job, and its exchanges begin a

@@ -13,9 +13,9 @@
 //! to one that it stands for then. What a core stands for is reached by events from a state in which nothing runs, so
 //! the laws over every list of events hold of it.
 //!
-//! A [`Command`] is what a whole server is told to do, with its arguments; one that changes nothing has a [`Shown`], with the [`Form`] that
-//! it is shown in. The command line is read as one, without a server. Clauses see it as `command_data` says (`specs/Commands.antt`). The core itself
-//! takes events alone.
+//! A [`Command`] is what a whole server is told to do, with its arguments; one that changes nothing has a [`Shown`],
+//! with the [`Form`] that it is shown in. The command line is read as one, without a server. Clauses see it as
+//! `command_data` says (`specs/Commands.antt`). The core itself takes events alone.
 #![tactic(auto)]
 
 mod answered;

@@ -33,7 +33,7 @@ pub enum Shown {
     Build(String, u32, Form),
     /// The builds that took or moved a version of the resource of this name that meets this JSON text.
     Trace(String, String, Form),
-    /// What the job's build of this number took, in one text, of which the checker says that it satisfies: by today's plan, it went together
-    /// through builds that were made before and have succeeded.
+    /// What the job's build of this number took, in one text, of which the checker says that it satisfies: by today's
+    /// plan, it went together through builds that were made before and have succeeded.
     BuildCertificate(String, u32),
 }

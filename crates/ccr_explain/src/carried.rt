@@ -48,9 +48,10 @@ impl Followed<'_> {
     }
 }
 
-/// The choice where an input takes its newest allowed place, each job that it is to have passed the newest build with which this place
-/// passed the job, each other input that is to have passed the job the place that it has there, and so on; but each place and each build is
-/// changed once. So around a ring of jobs mostly one demand alone isn't met. None where the input may take no place.
+/// The choice where an input takes its newest allowed place, each job that it is to have passed the newest build with
+/// which this place passed the job, each other input that is to have passed the job the place that it has there, and so
+/// on; but each place and each build is changed once. So around a ring of jobs mostly one demand alone isn't met. None
+/// where the input may take no place.
 pub(crate) fn carried(
     alloc: Global,
     problem: &Indexed<'_>,

@@ -18,12 +18,12 @@ use ccr_proof::MOST_NODES;
 use ccr_resolve::{Chosen, choose};
 use std::alloc::{AllocError, Global};
 
-/// Demands of a problem that exclude each other, and of which none can be left out; or the best choice, if one satisfies. The index
-/// stands for the problem.
+/// Demands of a problem that exclude each other, and of which none can be left out; or the best choice, if one
+/// satisfies. The index stands for the problem.
 ///
-/// Each call of the resolver has the budget, from 1 to 1,000,000, and there are at most twice as many calls as demands, and two where
-/// there are none. Where the budget doesn't suffice for one of them, the clash is one all the same, but says that perhaps fewer demands
-/// exclude each other. The only error is out of memory.
+/// Each call of the resolver has the budget, from 1 to 1,000,000, and there are at most twice as many calls as demands,
+/// and two where there are none. Where the budget doesn't suffice for one of them, the clash is one all the same, but
+/// says that perhaps fewer demands exclude each other. The only error is out of memory.
 pub fn clash(alloc: Global, index: &Index, budget: u32) -> Result<Explanation, AllocError>
     requires least { 1 ≤ budget }
     requires most { budget ≤ MOST_NODES }
@@ -35,8 +35,8 @@ pub fn clash(alloc: Global, index: &Index, budget: u32) -> Result<Explanation, A
     explained(alloc, &problem, few, None, budget)
 }
 
-/// The same, by a few demands that exclude each other, or else by all. A choice that is known to meet all demands but one spares calls of
-/// the resolver.
+/// The same, by a few demands that exclude each other, or else by all. A choice that is known to meet all demands but
+/// one spares calls of the resolver.
 pub(crate) fn explained(
     alloc: Global,
     problem: &Indexed<'_>,

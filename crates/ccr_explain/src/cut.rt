@@ -28,8 +28,8 @@ pub(crate) enum Cut {
     Emptied,
 }
 
-/// The problem cut to these demands. An input without the demand of its allowed places may take any place up to a top one. Places that no
-/// choice can have are left out, and builds that have none of the others.
+/// The problem cut to these demands. An input without the demand of its allowed places may take any place up to a top
+/// one. Places that no choice can have are left out, and builds that have none of the others.
 pub(crate) fn cut_to(
     alloc: Global,
     problem: &Indexed<'_>,

@@ -11,8 +11,8 @@ use ccr_index::Index;
 use ccr_proof::MOST_NODES;
 use std::alloc::{AllocError, Global};
 
-/// The demands of an input of an index's problem that alone exclude each other, else those of a few inputs that do so together, looked
-/// for from input 0 on; None where that takes all inputs, or the budget doesn't suffice to tell.
+/// The demands of an input of an index's problem that alone exclude each other, else those of a few inputs that do so
+/// together, looked for from input 0 on; None where that takes all inputs, or the budget doesn't suffice to tell.
 pub(crate) fn few_demands(
     alloc: Global,
     problem: &Indexed<'_>,
@@ -35,14 +35,15 @@ pub(crate) fn few_demands(
     grown(alloc, problem, 0, 1, budget)
 }
 
-/// Whether an index knows a place that the input could take if the others had no demands. Most have one, and needn't be asked about.
+/// Whether an index knows a place that the input could take if the others had no demands. Most have one, and needn't be
+/// asked about.
 fn has_place_alone(index: &Index, input: usize) -> bool {
     input < index.input_count() && index.top(input) > 0
 }
 
-/// The demands of one input, and of as few more that name a job as it takes until they exclude each other; None where that takes
-/// all of them, or the budget doesn't suffice to tell. Inputs that name a job in common are taken before others. Of the first `known`
-/// it is known that they don't exclude each other.
+/// The demands of one input, and of as few more that name a job as it takes until they exclude each other; None where
+/// that takes all of them, or the budget doesn't suffice to tell. Inputs that name a job in common are taken before
+/// others. Of the first `known` it is known that they don't exclude each other.
 pub(crate) fn grown(
     alloc: Global,
     problem: &Indexed<'_>,
@@ -77,8 +78,9 @@ pub(crate) fn grown(
 /// How often numbers of inputs are tried at the most: 1, 2, 4, 8, 16 and 31, and then half as far each time.
 const MOST_TRIES: usize = 10;
 
-/// How many inputs are tried next, where the demands of `few` don't exclude each other, and those of `many` do unless there aren't so
-/// many: twice as many as the last time, and then half of those between. It is `few` where there is nothing between.
+/// How many inputs are tried next, where the demands of `few` don't exclude each other, and those of `many` do unless
+/// there aren't so many: twice as many as the last time, and then half of those between. It is `few` where there is
+/// nothing between.
 fn next_count(few: usize, many: usize, most: usize) -> usize
     ensures { result ≤ most }
 {

@@ -7,9 +7,10 @@ use ccr_choice::{Choice, Input};
 use ccr_index::JobRows;
 use std::alloc::{AllocError, Global};
 
-/// A choice in which each job, in the order in which they were looked at, takes its newest build that is left and agrees with the places
-/// that are taken by then; inputs that name the job take their places in this build, and all others their newest. Where the jobs are no ring, it
-/// mostly meets all demands. Nothing is promised: look at it before you rely on it.
+/// A choice in which each job, in the order in which they were looked at, takes its newest build that is left and
+/// agrees with the places that are taken by then; inputs that name the job take their places in this build, and all
+/// others their newest. Where the jobs are no ring, it mostly meets all demands. Nothing is promised: look at it before
+/// you rely on it.
 pub(crate) fn guessed(
     alloc: Global,
     problem: &Indexed<'_>,
@@ -59,8 +60,8 @@ fn numbers_naming(alloc: Global, inputs: &[Input], job: usize) -> Result<Vec<usi
     Ok(naming)
 }
 
-/// The number of the first of these builds that agrees with the places that are taken, where the inputs that name its job have taken their places in
-/// it; 0 where there is none.
+/// The number of the first of these builds that agrees with the places that are taken, where the inputs that name its
+/// job have taken their places in it; 0 where there is none.
 fn take_build(
     inputs: &[Input],
     naming: &[usize],

@@ -9,8 +9,8 @@ use ccr_choice::Input;
 use ccr_index::{Index, JobRows};
 use std::marker::Model;
 
-/// A problem: these inputs, and the builds of the problem that an index stands for. So other inputs are asked about without a copy of
-/// all builds.
+/// A problem: these inputs, and the builds of the problem that an index stands for. So other inputs are asked about
+/// without a copy of all builds.
 #[derive(Drop)]
 pub(crate) struct Indexed<'a> {
     inputs: &'a [Input],

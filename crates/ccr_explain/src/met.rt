@@ -24,7 +24,8 @@ pub(crate) enum Met {
     OverBudget,
 }
 
-/// A choice of the cut problem as one of the whole: jobs have the numbers that they have there. A job that isn't left has no build.
+/// A choice of the cut problem as one of the whole: jobs have the numbers that they have there. A job that isn't left
+/// has no build.
 fn choice_of_cut(
     alloc: Global,
     problem: &Indexed<'_>,

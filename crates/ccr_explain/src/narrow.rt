@@ -15,9 +15,10 @@ use std::alloc::{AllocError, Global};
 /// A job that was looked at, and where builds of it lie, of which those that were of no use are left out.
 pub(crate) type Looked = (usize, Vec<usize>);
 
-/// Leaves to each of these inputs only places that came with builds of use of each job that it names, so that no choice is lost. Each
-/// job is looked at once: the next is the one whose inputs leave it the least. Then they are looked at once more, the last one first,
-/// since what is left to the last inputs rules out places of the first. Gives what was looked at.
+/// Leaves to each of these inputs only places that came with builds of use of each job that it names, so that no choice
+/// is lost. Each job is looked at once: the next is the one whose inputs leave it the least. Then they are looked at
+/// once more, the last one first, since what is left to the last inputs rules out places of the first. Gives what was
+/// looked at.
 pub(crate) fn narrow(
     alloc: Global,
     problem: &Indexed<'_>,
@@ -68,7 +69,8 @@ fn narrow_each(
     Ok(looked)
 }
 
-/// Of the jobs that aren't done, one that an input with the fewest places names; None where an input has none, since there is no choice then.
+/// Of the jobs that aren't done, one that an input with the fewest places names; None where an input has none, since
+/// there is no choice then.
 fn next_job(inputs: &[Input], is_done: &[bool]) -> Option<usize>
     ensures { IfSome result (λ job. job < length is_done.now) }
 {
@@ -211,6 +213,7 @@ fn places_marked(alloc: Global, marks: &[bool], places: &[u32]) -> Result<Vec<u3
         .collect(alloc)
 }
 
+/// Whether a place has a mark.
 pub(crate) fn is_marked(marks: &[bool], place: u32) -> bool
     ensures { result ≡ slice_index_or marks.now place false }
 {

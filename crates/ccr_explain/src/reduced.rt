@@ -41,9 +41,9 @@ impl Model for Reduction {
     } };
 }
 
-/// What is left of these demands when each is left out in turn, and stays out if the others still exclude each other. Whatever
-/// is kept can't be left out later either, when there are fewer others. A choice that is known to meet all but one tells of the first that
-/// are needed.
+/// What is left of these demands when each is left out in turn, and stays out if the others still exclude each other.
+/// Whatever is kept can't be left out later either, when there are fewer others. A choice that is known to meet all but
+/// one tells of the first that are needed.
 pub(crate) fn reduced(
     alloc: Global,
     problem: &Indexed<'_>,
@@ -74,8 +74,8 @@ pub(crate) fn reduced(
     })
 }
 
-/// The demands of a problem of which a choice that is known tells that none can be left out, if there are at least three and they alone
-/// exclude each other. The resolver is called once.
+/// The demands of a problem of which a choice that is known tells that none can be left out, if there are at least
+/// three and they alone exclude each other. The resolver is called once.
 pub(crate) fn clash_of_needed(
     alloc: Global,
     problem: &Indexed<'_>,
@@ -122,8 +122,8 @@ fn needed_first(
     Ok(is_needed)
 }
 
-/// The demands that have a mark where they alone exclude each other, which is asked if there are some; else what was given, perhaps with more
-/// marks.
+/// The demands that have a mark where they alone exclude each other, which is asked if there are some; else what was
+/// given, perhaps with more marks.
 fn begun(
     alloc: Global,
     problem: &Indexed<'_>,
@@ -144,8 +144,8 @@ fn begun(
     gathered(alloc, problem, now, budget)
 }
 
-/// The same, of many demands: those that name a job are left out one at a time, as long as some choice meets the others, since each such
-/// choice mostly tells of several that are needed.
+/// The same, of many demands: those that name a job are left out one at a time, as long as some choice meets the
+/// others, since each such choice mostly tells of several that are needed.
 fn gathered(
     alloc: Global,
     problem: &Indexed<'_>,
@@ -255,8 +255,9 @@ fn needed_each(
     Ok(is_needed)
 }
 
-/// What is left once the next demand was tried, if there is one. Where that marked others, too, and the marks passed a power of two, it is tried
-/// whether all that are marked exclude each other alone: if they do, all is done. Each call of the resolver is paid for by a demand of its own.
+/// What is left once the next demand was tried, if there is one. Where that marked others, too, and the marks passed a
+/// power of two, it is tried whether all that are marked exclude each other alone: if they do, all is done. Each call
+/// of the resolver is paid for by a demand of its own.
 fn turn(
     alloc: Global,
     problem: &Indexed<'_>,

@@ -48,8 +48,8 @@ pub fn why_not(
     asked_of(alloc, &problem, choice, input, budget)
 }
 
-/// Why a problem, which asks that input `input` takes a place, has no choice; or its best choice. But for this place, the choice that is
-/// known meets all that is asked.
+/// Why a problem, which asks that input `input` takes a place, has no choice; or its best choice. But for this place,
+/// the choice that is known meets all that is asked.
 fn asked_of(
     alloc: Global,
     problem: &Indexed<'_>,

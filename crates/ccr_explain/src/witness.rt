@@ -19,8 +19,8 @@ struct Witness {
     unmet: usize,
 }
 
-/// Marks demands that are needed, since some choice meets all others: where a choice meets all but one, this one, and those that are
-/// reached from there by changing one place or one build at a time, so that one demand alone isn't met.
+/// Marks demands that are needed, since some choice meets all others: where a choice meets all but one, this one, and
+/// those that are reached from there by changing one place or one build at a time, so that one demand alone isn't met.
 pub(crate) fn mark_needed(
     alloc: Global,
     problem: &Indexed<'_>,
@@ -49,8 +49,8 @@ pub(crate) fn mark_needed(
     Ok(())
 }
 
-/// The same, where each demand that names a job and has no mark is left out in turn, and the input that is asked about takes its place: its
-/// demand is the only one that a choice which is known doesn't meet.
+/// The same, where each demand that names a job and has no mark is left out in turn, and the input that is asked about
+/// takes its place: its demand is the only one that a choice which is known doesn't meet.
 pub(crate) fn mark_one_by_one(
     alloc: Global,
     problem: &Indexed<'_>,
@@ -156,8 +156,8 @@ fn with_other_build(
     Ok(Some(other))
 }
 
-/// The choice with another place of the input whose demand isn't met: one that passed the job, or the newest that is allowed, with what has
-/// to change for it.
+/// The choice with another place of the input whose demand isn't met: one that passed the job, or the newest that is
+/// allowed, with what has to change for it.
 fn with_other_place(
     alloc: Global,
     problem: &Indexed<'_>,

@@ -1,12 +1,13 @@
 //! What is known of a pipeline before it runs: all faults of its text, its gates, its keys without effect, and what can
 //! never happen.
 //!
-//! [`ccr_pipeline::read`] tells the first fault of a text alone. [`faults_of`] tells all, and [`faults_in`] those of its JSON
-//! value, each as the reader would tell it if it were the first, in the order in which they count: what is broken before the jobs,
-//! what is broken in the jobs, and then the names of resources and jobs that aren't there. No fault ends the search: the keys
-//! beside it and the steps in it are searched as well. A list that isn't one has no members, and steps that lie too deep aren't
-//! looked into. [`faults_are_those_of_the_reader`] is the law that ties both: the first of all faults is what the reader refuses
-//! the text for, and there are none exactly where it reads the text. Nothing is refused but memory.
+//! [`ccr_pipeline::read`] tells the first fault of a text alone. [`faults_of`] tells all, and [`faults_in`] those of
+//! its JSON value, each as the reader would tell it if it were the first, in the order in which they count: what is
+//! broken before the jobs, what is broken in the jobs, and then the names of resources and jobs that aren't there. No
+//! fault ends the search: the keys beside it and the steps in it are searched as well. A list that isn't one has no
+//! members, and steps that lie too deep aren't looked into. [`faults_are_those_of_the_reader`] is the law that ties
+//! both: the first of all faults is what the reader refuses the text for, and there are none exactly where it reads the
+//! text. Nothing is refused but memory.
 //!
 //! [`fault_lines`] tells all that is wrong with a text, a line for each fault, with what stands there, what is wanted there and
 //! the nearest name that is there.

@@ -1,7 +1,8 @@
 //! Keys of versions and pins: the compact JSON text of an object whose fields are all texts, keys ascending.
 //!
-//! A version and a pin keep their key and nothing else. So whether a version meets a pin is read off the two keys: each member of the
-//! pin's key, as it is spelled, has to be a member of the version's. A text has one spelling in a key, so equal members are equal texts.
+//! A version and a pin keep their key and nothing else. So whether a version meets a pin is read off the two keys: each
+//! member of the pin's key, as it is spelled, has to be a member of the version's. A text has one spelling in a key, so
+//! equal members are equal texts.
 ghost use Rattle.std.specs.Prelude.{◌≡◌, ◌↔◌, ◌<◌, ◌≤◌, Some, None, IfOk, IfErr, IfSome, IsTrue, IsErrOf, IsSome, string_bytes, length, false, option_map, drop};
 ghost use Rattle.std.specs.List.{list_all};
 ghost use Rattle.std.specs.BTreeMap.{values, IsOrdered};

@@ -1,10 +1,10 @@
-//! What has been seen of the resources, what was built, and what is set: histories. Below them stand the values that they hold, and
-//! beside them what is asked of a place where one is kept.
+//! What has been seen of the resources, what was built, and what is set: histories. Below them stand the values that
+//! they hold, and beside them what is asked of a place where one is kept.
 //!
 //! A [`History`] holds a table of versions for each scope, the builds in order of making, the pins by command, the
-//! disabled places and the pipeline's text. Clauses see it as a record of these, without where they lie in memory, which keeps the rules of
-//! `IsHistory`. Each call that changes a history gives the named change of it, an [`Edit`]; a [`Change`] is a list of
-//! edits, in the order in which they are made.
+//! disabled places and the pipeline's text. Clauses see it as a record of these, without where they lie in memory,
+//! which keeps the rules of `IsHistory`. Each call that changes a history gives the named change of it, an [`Edit`]; a
+//! [`Change`] is a list of edits, in the order in which they are made.
 //!
 //! A refused call changes nothing. A history has its limits, `TableFull` and `BuildsFull`, and refuses to
 //! end a build that isn't there, `NoBuild`, or that doesn't run, `AlreadyEnded`. A place that its table lacks is neither
@@ -18,10 +18,10 @@
 //! Clauses see it as its JSON value. A [`Scope`] is a resource with its type and source. A JSON value that is no version is
 //! refused: `NotObject` where it is no object, `VersionNotText` where a field isn't a text.
 //!
-//! A [`Storage`] is where a history is kept: a change is written whole, or not at all. Contracts see which history its tables hold. After
-//! an `Ok` it is the changed one; after an `Err` it is the one that it was. They also see which history a crash leaves: after
-//! an `Ok` the changed one alone. A [`Tally`] says how many commits there were, and why the last one failed, so that a
-//! server's promises can say that it asked.
+//! A [`Storage`] is where a history is kept: a change is written whole, or not at all. Contracts see which history its
+//! tables hold. After an `Ok` it is the changed one; after an `Err` it is the one that it was. They also see which
+//! history a crash leaves: after an `Ok` the changed one alone. A [`Tally`] says how many commits there were, and why
+//! the last one failed, so that a server's promises can say that it asked.
 #![tactic(auto)]
 
 mod build;

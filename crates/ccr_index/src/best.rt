@@ -139,7 +139,8 @@ impl Index {
     fn source(&self, input: usize, fixed: &Fixed) -> Option<&[(u32, u32)]>
         requires { input < length self.now.problem.inputs }
         ensures some { let p = self.now.problem in IfSome result
-            (λ pairs. (place : ℕ) → IsPossible p (assigned p fixed.now) input place → Contains pairs.now ((input_at p input).scope, place)) }
+            (λ pairs. (place : ℕ) → IsPossible p (assigned p fixed.now) input place
+            → Contains pairs.now ((input_at p input).scope, place)) }
         ensures none { IfNone result (EachIndex (input_at self.now.problem input).jobs
             (λ k. assigned self.now.problem fixed.now (slice_index (input_at self.now.problem input).jobs k) ≡ None)) }
         ensures ascending { IfSome result (λ pairs. AreAscending pairs.now) }

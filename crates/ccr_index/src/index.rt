@@ -157,8 +157,8 @@ impl Index {
         Ok(())
     }
 
-    /// Keeps a place for input `input`, that of a build which used it, in place of any that was kept: the places above it now come
-    /// first (Concourse: get step, `version: every`). It takes no memory.
+    /// Keeps a place for input `input`, that of a build which used it, in place of any that was kept: the places above
+    /// it now come first (Concourse: get step, `version: every`). It takes no memory.
     pub fn set_after(&mut self, input: usize, place: u32)
         requires input { input < length self.old.problem.inputs }
         requires some { 0 < place }

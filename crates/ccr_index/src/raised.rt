@@ -18,7 +18,8 @@ impl Index {
     pub(crate) fn top_with_place(&self, input: usize, place: u32) -> u32
         requires input { input < length self.now.problem.inputs }
         requires rules { IsProblem (with_version self.now.problem input place) }
-        ensures { let after = with_version self.now.problem input place in IsBestPlace (order_of after) after nothing_fixed input result }
+        ensures { let after = with_version self.now.problem input place
+            in IsBestPlace (order_of after) after nothing_fixed input result }
     {
         let top = self.top(input);
         let is_first = is_preferred(self.input(input).after(), place, top);
@@ -32,7 +33,8 @@ impl Index {
     /// The best place of input `input`, once this place is kept for it.
     pub(crate) fn top_after(&self, input: usize, kept: u32) -> u32
         requires { input < length self.now.problem.inputs }
-        ensures { let after = with_after self.now.problem input kept in IsBestPlace (order_of after) after nothing_fixed input result }
+        ensures { let after = with_after self.now.problem input kept
+            in IsBestPlace (order_of after) after nothing_fixed input result }
     {
         let places = self.input(input).places();
         let ranks = ranks_of(Some(kept), places);

@@ -48,8 +48,8 @@ pub struct JobRows {
     seen: HashMap<(u32, u32), Seen>,
     /// Which scopes count.
     scopes: Scopes,
-    /// To the print of builds of one kind, one more than the row of the last one with this print. A build with a pair that no earlier one
-    /// has is of a new kind, and isn't noted here.
+    /// To the print of builds of one kind, one more than the row of the last one with this print. A build with a pair
+    /// that no earlier one has is of a new kind, and isn't noted here.
     prints: HashMap<u32, u32>,
     /// The greatest place of a pair, 0 where there is none.
     top: u32,
@@ -183,8 +183,9 @@ impl JobRows {
         does_count(&self.scopes, scope)
     }
 
-    /// A build to look at first, where a build is sought that is newer than build `build` and has all its pairs that count: the newest one with
-    /// the same print, which may be build `build` itself; None where it is known at once that there is none.
+    /// A build to look at first, where a build is sought that is newer than build `build` and has all its pairs that
+    /// count: the newest one with the same print, which may be build `build` itself; None where it is known at once
+    /// that there is none.
     pub fn newest_alike(&self, build: usize) -> Option<usize>
         requires { build < length self.now.builds }
         ensures some { IfSome result (λ q. q < length self.now.builds) }
@@ -282,8 +283,8 @@ fn place_of(pairs: &[(u32, u32)], scope: u32, place: u32) -> usize
     pairs.partition_point(|q| q.0 < scope || (q.0 == scope && q.1 < place))
 }
 
-/// Notes of each of these pairs which row had it last, and that a row, by one more than its number, is now the last one that has it, with so
-/// many pairs that count.
+/// Notes of each of these pairs which row had it last, and that a row, by one more than its number, is now the last one
+/// that has it, with so many pairs that count.
 fn note(
     earlier: &mut Vec<u32>,
     seen: &mut HashMap<(u32, u32), Seen>,

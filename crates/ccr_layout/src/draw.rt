@@ -344,7 +344,8 @@ pub(crate) fn paths_of(
     requires { IsStanding spans.now tops.now }
     ensures long { IfOk result (λ paths. length paths.items ≡ length edges.now) }
     ensures each { IfOk result (λ paths. (k : ℕ) (d : Path) (e : Edge) → k < length edges.now
-        → IsPathOf nodes.now spans.now bands.now tops.now lanes.now (slice_index_or edges.now k e) (slice_index_or paths.items k d)) }
+        → IsPathOf nodes.now spans.now bands.now tops.now lanes.now
+        (slice_index_or edges.now k e) (slice_index_or paths.items k d)) }
 {
     let mut paths = Vec::new(alloc);
     for edge in edges {

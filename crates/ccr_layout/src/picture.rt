@@ -29,8 +29,8 @@ pub struct Tab {
     pub height: u32,
 }
 
-/// A piece of the line that all edges of a node share on their way to later columns: a curve from `from` to the left of the column,
-/// and then level to its right.
+/// A piece of the line that all edges of a node share on their way to later columns: a curve from `from` to the left of
+/// the column, and then level to its right.
 #[derive(Clone, Copy, Drop)]
 pub struct Slot {
     pub node: usize,

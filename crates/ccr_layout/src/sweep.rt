@@ -52,8 +52,8 @@ fn wishing(
 /// The key of a node that has no wish and is near none.
 const LAST: u32 = u32::MAX;
 
-/// The keys by which the nodes of a column stand below each other: the tops of those that have a wish, and for the others what they
-/// are near to.
+/// The keys by which the nodes of a column stand below each other: the tops of those that have a wish, and for the
+/// others what they are near to.
 fn keys_of(
     alloc: Global,
     wishes: &[Option<u32>],
@@ -142,8 +142,8 @@ fn first_column(alloc: Global, spans: &[Span], leaving: &[Line]) -> Result<Vec<u
     stood(alloc, spans, 0, &keys, &[])
 }
 
-/// The tops of the nodes of a later column: first of those that have a wish, and then the others among them. `before` are the middles
-/// in the column before.
+/// The tops of the nodes of a later column: first of those that have a wish, and then the others among them. `before`
+/// are the middles in the column before.
 fn next_column(
     alloc: Global,
     spans: &[Span],
@@ -211,8 +211,8 @@ fn moved(
     Ok(placed)
 }
 
-/// Where the nodes of a column stand once those without lines from the left are moved by their lines to the right. `next` are the tops
-/// in the next column.
+/// Where the nodes of a column stand once those without lines from the left are moved by their lines to the right.
+/// `next` are the tops in the next column.
 fn moved_back(
     alloc: Global,
     spans: &[Span],
@@ -230,7 +230,8 @@ fn moved_back(
     moved(alloc, spans, column, tops, &wishes)
 }
 
-/// Where the nodes of a column stand once they are moved by their lines from the left. `before` are the tops in the column before.
+/// Where the nodes of a column stand once they are moved by their lines from the left. `before` are the tops in the
+/// column before.
 fn moved_on(
     alloc: Global,
     spans: &[Span],
@@ -289,8 +290,8 @@ fn swept_on(
     Ok(swept)
 }
 
-/// Where each node stands in each of its columns: from left to right by the lines from the left, back by those to the right, and again
-/// from left to right.
+/// Where each node stands in each of its columns: from left to right by the lines from the left, back by those to the
+/// right, and again from left to right.
 pub(crate) fn tops_of(
     alloc: Global,
     spans: &[Span],

@@ -71,8 +71,9 @@ fn first_mean(first: Mean, second: Mean) -> Option<u32>
     }
 }
 
-/// For each node the top at which its lines from the left are level, or those of them that trigger, if any does, counted from above
-/// the picture; none where no line comes from the left. `middles` are the heights in the column before.
+/// For each node the top at which its lines from the left are level, or those of them that trigger, if any does,
+/// counted from above the picture; none where no line comes from the left. `middles` are the heights in the column
+/// before.
 pub(crate) fn wishes_left(
     alloc: Global,
     lines: &[Line],
@@ -238,8 +239,8 @@ fn hearing(
     Ok(means)
 }
 
-/// For nodes without lines from the left the mean height of the others that lead to the same boxes: `leaving` are their lines, and
-/// `middles` their heights.
+/// For nodes without lines from the left the mean height of the others that lead to the same boxes: `leaving` are their
+/// lines, and `middles` their heights.
 pub(crate) fn near(
     alloc: Global,
     wishes: &[Option<u32>],

@@ -1,4 +1,5 @@
-//! What a build took, in one text for the checker: that it went together, by today's plan, through builds that were made before and have succeeded.
+//! What a build took, in one text for the checker: that it went together, by today's plan, through builds that were
+//! made before and have succeeded.
 ghost use Rattle.std.specs.Prelude.{◌≡◌, ◌<◌, ℕ, Some, length, map, take, slice_get, option_map, option_copied, unwrap_or, string_bytes, IfOk, IfErr, MatchBool};
 ghost use Rattle.ccr_choice.specs.Satisfies.{Satisfies, IsAllowed};
 ghost use Rattle.ccr_pipeline.specs.Inputs.{input_data, inputs};
@@ -167,8 +168,9 @@ fn build_text(
     }
 }
 
-/// What is shown of the job's build of this number, for the checker. It shows that what the build took went together through builds that
-/// have succeeded and were made before it, by today's plan; not that they had succeeded when it was made.
+/// What is shown of the job's build of this number, for the checker. It shows that what the build took went together
+/// through builds that have succeeded and were made before it, by today's plan; not that they had succeeded when it was
+/// made.
 pub(crate) fn build_certificate_made(
     alloc: Global,
     core: &Core,

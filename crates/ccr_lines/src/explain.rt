@@ -510,8 +510,8 @@ fn explained_by(
     }
 }
 
-/// What the next build of a job would take, and why nothing newer, or why there is none, by the index of its problem. A search may take
-/// `budget` nodes, from 1 to 1,000,000. The pipeline has the job.
+/// What the next build of a job would take, and why nothing newer, or why there is none, by the index of its problem. A
+/// search may take `budget` nodes, from 1 to 1,000,000. The pipeline has the job.
 fn explained_of(
     alloc: Global,
     pipeline: &Pipeline,
@@ -531,7 +531,8 @@ fn explained_of(
     Ok(explained)
 }
 
-/// What the next build of a job would take, and why nothing newer, or why there is none, by what a core keeps. Its pipeline has the job.
+/// What the next build of a job would take, and why nothing newer, or why there is none, by what a core keeps. Its
+/// pipeline has the job.
 ///
 /// The only error is out of memory.
 pub fn explained_in(

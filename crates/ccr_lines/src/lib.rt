@@ -4,9 +4,9 @@
 //! writes each kind of line into a sink. The sink is a [`Lines`]: room for a line is made before the event, so that a
 //! whole line always follows. A vector is one, and [`Printed`] prints what it is handed.
 //!
-//! What a command shows that changes nothing is a `Shown` of the core: a [`Show`] writes its lines from what the core holds
-//! (`specs/Shown.antt`), some in either form: as lines, or as JSON. The program takes [`AsText`]: for each kind of `Shown` a function gives
-//! the status and the bytes.
+//! What a command shows that changes nothing is a `Shown` of the core: a [`Show`] writes its lines from what the core
+//! holds (`specs/Shown.antt`), some in either form: as lines, or as JSON. The program takes [`AsText`]: for each kind
+//! of `Shown` a function gives the status and the bytes.
 #![tactic(auto)]
 
 mod asked;

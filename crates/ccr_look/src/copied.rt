@@ -1,8 +1,8 @@
 //! The bytes of a database and its log, read while another program may write both.
 //!
-//! A database is two files. Between two checkpoints its own file doesn't change, and a committed frame of the log doesn't either: so what is
-//! read of the file, and then of the log, is together what a crash may leave, if no checkpoint has ended between. A checkpoint gives the log
-//! another header, whose salt always differs.
+//! A database is two files. Between two checkpoints its own file doesn't change, and a committed frame of the log
+//! doesn't either: so what is read of the file, and then of the log, is together what a crash may leave, if no
+//! checkpoint has ended between. A checkpoint gives the log another header, whose salt always differs.
 ghost use Rattle.std.specs.Prelude.{◌≡◌, ◌++◌, [], ◌∷◌, codes, string_bytes, take, Decides, IfOk, IfSome, MatchResult};
 ghost use Rattle.ccr_look.specs.Answers.{log_fault, absence, file_fault, journal_fault};
 ghost use Rattle.ccr_look.specs.Noted.{noted};
@@ -126,8 +126,8 @@ fn journal_fault(journal: Found) -> Option<CopyFault>
     }
 }
 
-/// Sees that a database is there that can be read: a file that isn't empty, without a journal that has to be rolled back. To open what is no
-/// file, as a pipe, could make a look wait.
+/// Sees that a database is there that can be read: a file that isn't empty, without a journal that has to be rolled
+/// back. To open what is no file, as a pipe, could make a look wait.
 fn see_it_is_there<R: Files>(reader: &mut Reader<'_, R>, names: &Names) -> Result<(), CopyFault>
     ensures { MatchResult result (λ _. Adds (noted reader.old) (noted reader.new) (IsThere (place_named names.now)))
         (λ fault. Adds (noted reader.old) (noted reader.new) (IsNotThere (place_named names.now) fault)) }

@@ -33,8 +33,8 @@ fn loaded(alloc: Global, store: Store<FileStore<Scratch>>) -> Result<History, St
     }
 }
 
-/// The history in a database. One without tables has the empty history, and one of the first format is written over to the second: both in
-/// memory alone.
+/// The history in a database. One without tables has the empty history, and one of the first format is written over to
+/// the second: both in memory alone.
 ///
 /// The errors are those of [`Store::adopt`] and [`Store::load`].
 pub(crate) fn history_in(

@@ -28,17 +28,20 @@ use sqlite_trees::store::Store as Trees;
 
 /// What a look finds in bytes that a server's files leave is one of the histories that its storage leaves, and the bytes hold it.
 ///
-/// The connection is the server's, over any disk that has returned what was written. It is a law over the definitions alone; nothing
-/// runs.
+/// The connection is the server's, over any disk that has returned what was written. It is a law over the definitions
+/// alone; nothing runs.
 pub fn a_look_finds_what_is_left<D: Disk>(conn: &Connection<FileStore<D>>)
     ensures { (image : Image) → (found : HistoryData) → IsFoundIn ⟦<FileStore<Scratch> as Trees>⟧ image found
         → IsWhatIsLeft conn.now image found }
-{}
+{
+    // Nothing runs.
+}
 
-/// What a run leaves of its files, ended or killed at any moment, also in the midst of a commit, is what the next open takes: they hold one
-/// of the histories that its storage leaves.
+/// What a run leaves of its files, ended or killed at any moment, also in the midst of a commit, is what the next open
+/// takes: they hold one of the histories that its storage leaves.
 ///
-/// The connection is the server's, over any disk that has returned what was written. It is a law over the definitions alone; nothing runs.
+/// The connection is the server's, over any disk that has returned what was written. It is a law over the definitions
+/// alone; nothing runs.
 pub fn what_is_left_is_taken<D: Disk>(conn: &Connection<FileStore<D>>)
     // The bytes that a kill leaves, and those that stand for them.
     ensures killed { (tally : TallyData) (hs : List HistoryData) → AllByRecursion IsHistory hs
@@ -54,11 +57,12 @@ pub fn what_is_left_is_taken<D: Disk>(conn: &Connection<FileStore<D>>)
         → ∥ ((h : HistoryData) × IsOneOf hs h × HoldsHistory (files_now conn.now.store) h) ∥₁ }
 {}
 
-/// What a kill leaves while a database is being taken is what the next open takes, with the same history: also while the six tables of a new
-/// one are made, and while rows of the first format become those of the second.
+/// What a kill leaves while a database is being taken is what the next open takes, with the same history: also while
+/// the six tables of a new one are made, and while rows of the first format become those of the second.
 ///
-/// The connection is one that [`Store::adopt`](ccr_store::Store::adopt) has begun to take, over any disk that has returned what was written;
-/// `before` is the same as it was opened. It is a law over the definitions alone; nothing runs.
+/// The connection is one that [`Store::adopt`](ccr_store::Store::adopt) has begun to take, over any disk that has
+/// returned what was written; `before` is the same as it was opened. It is a law over the definitions alone; nothing
+/// runs.
 pub fn what_is_begun_is_taken<D: Disk>(conn: &Connection<FileStore<D>>)
     ensures { (was : Image) (h : HistoryData) → HoldsHistory was h
         → (before : Held (FileStoreData D D.Disk)) → IsOpened before → FindsIn was (file_state before)
@@ -67,8 +71,8 @@ pub fn what_is_begun_is_taken<D: Disk>(conn: &Connection<FileStore<D>>)
         → (image : Image) → AreLeftBy conn.now.store image → ∥ HoldsHistory image h ∥₁ }
 {}
 
-/// What a kill of the very first run leaves, before it has made the tables, is again files in which nothing was made. So the next run takes
-/// them, with the empty history.
+/// What a kill of the very first run leaves, before it has made the tables, is again files in which nothing was made.
+/// So the next run takes them, with the empty history.
 ///
 /// It is a law over the definitions alone; nothing runs.
 pub fn a_first_run_leaves_nothing<D: Disk>(conn: &Connection<FileStore<D>>)
@@ -84,8 +88,8 @@ pub fn a_first_run_leaves_nothing<D: Disk>(conn: &Connection<FileStore<D>>)
         → (image : Image) → AreLeftBy conn.now.store image → ∥ HoldNothing image ∥₁ }
 {}
 
-/// However often a database is opened, and whether each run ends or is killed: their events and restarts are one list, and what the files
-/// hold in the end is the history to which it leads. So nothing that was stored is lost.
+/// However often a database is opened, and whether each run ends or is killed: their events and restarts are one list,
+/// and what the files hold in the end is the history to which it leads. So nothing that was stored is lost.
 ///
 /// It is a law over the definitions alone; nothing runs.
 pub fn runs_are_one_list()

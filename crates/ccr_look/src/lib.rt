@@ -1,9 +1,9 @@
 //! A look at a database that another program may have open: no lock, no waiting, nothing written.
 //!
-//! [`copy`] reads the database and its log, in an order in which the two belong together; [`copy_with`] does it by a [`Reader`], whose calls
-//! contracts see, each with its answer. [`look`] opens what was read in memory, and
-//! gives a core over the history that is found there, as it is: a build that runs is shown as running. What bytes hold, and what a look
-//! finds in them, stands in `specs/`.
+//! [`copy`] reads the database and its log, in an order in which the two belong together; [`copy_with`] does it by a
+//! [`Reader`], whose calls contracts see, each with its answer. [`look`] opens what was read in memory, and gives a
+//! core over the history that is found there, as it is: a build that runs is shown as running. What bytes hold, and
+//! what a look finds in them, stands in `specs/`.
 #![tactic(auto)]
 
 mod calls;

@@ -31,11 +31,11 @@ fn over(alloc: Global, history: History, budget: u32) -> Result<Core, StoreFault
     }
 }
 
-/// A core over the history in bytes that were read, as it is: a build that runs in it still does. Its searches take at most `budget` nodes, from
-/// 1 to 1,000,000.
+/// A core over the history in bytes that were read, as it is: a build that runs in it still does. Its searches take at
+/// most `budget` nodes, from 1 to 1,000,000.
 ///
-/// The faults are those of an open and a load of the database: `Disk` where the bytes are no database or a damaged one, `NotOurs` where it
-/// holds no history, `NoMemory`.
+/// The faults are those of an open and a load of the database: `Disk` where the bytes are no database or a damaged one,
+/// `NotOurs` where it holds no history, `NoMemory`.
 pub fn look(alloc: Global, copied: Copied<'_>, budget: u32) -> Result<Core, StoreFault>
     requires least { 1 ≤ budget }
     requires most { budget ≤ MOST_NODES }

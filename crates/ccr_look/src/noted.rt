@@ -1,7 +1,7 @@
 //! What looks at files, opens and reads them, and notes each call with its answer.
 //!
-//! Nothing else of this crate holds the system. That a call is the one that is noted no clause can see: each method makes one, of the
-//! path that it is given.
+//! Nothing else of this crate holds the system. That a call is the one that is noted no clause can see: each method
+//! makes one, of the path that it is given.
 ghost use Rattle.std.specs.Prelude.{◌≡◌, ◌++◌, ◌∷◌, [], IfOk, IfSome, MatchResult};
 ghost use Rattle.std.specs.Io.{ReadsAtMost};
 ghost use Rattle.std.specs.Io.KnownBytes.{ReadConsumes};

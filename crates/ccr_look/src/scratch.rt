@@ -1,7 +1,7 @@
 //! A file in memory whose bytes are kept once.
 //!
-//! The kit's `Memory` keeps beside them what was synced last and each step since, so that a crash may leave all that a disk's may. A look
-//! is read and then let go of, and no crash comes: what may be left is what is there.
+//! The kit's `Memory` keeps beside them what was synced last and each step since, so that a crash may leave all that a
+//! disk's may. A look is read and then let go of, and no crash comes: what may be left is what is there.
 ghost use Rattle.std.specs.Prelude.{◌≡◌, length, false, true, refl, is_ok, OnOk};
 ghost use Rattle.sqlite_disk.specs.Disk.{Holds, Torn, Cut, CountsFault};
 ghost use Rattle.sqlite_disk.specs.Refusal.{finds_no_room};

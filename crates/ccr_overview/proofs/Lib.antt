@@ -1,3 +1,4 @@
+pub mod Beside
 pub mod Clashing
 pub mod Digits
 pub mod Disabling

@@ -1,5 +1,5 @@
 -- Why a job stands still, in a sentence: a table over what `explain` says, and how the newest build stands.
-use Rattle.std.specs.Prelude.{ℕ, ◌-◌, List, [], ◌∷◌, ◌++◌, length, map, flat_map, filter, find, slice_get, Bool, true, false, not, ◌&&◌, ◌||◌, ◌==◌, nat_lt, Option, Some, None, option_and_then, if◌then◌else◌, codes, decimal}
+use Rattle.std.specs.Prelude.{ℕ, ◌-◌, List, [], ◌∷◌, ◌++◌, length, map, flat_map, filter, find, slice_get, Bool, true, false, not, ◌&&◌, ◌==◌, nat_lt, Option, Some, None, option_and_then, if◌then◌else◌, codes, decimal}
 use Rattle.std.specs.Option.{option_map_or}
 use Rattle.std.specs.Str.{bytes_eq}
 use Rattle.ccr_history.specs.Text.{Text}
@@ -11,11 +11,12 @@ use Rattle.ccr_pipeline.specs.Inputs.{InputData, inputs}
 use Rattle.ccr_pipeline.specs.JobData.{JobData}
 use Rattle.ccr_lines.specs.ExplainedData.{TakenData, ExplainedData}
 use Rattle.ccr_lines.specs.Lines.{status_word}
+use Rattle.ccr_lines.specs.Live.{live_of}
+use Rattle.ccr_lines.specs.Releases.{is_pair}
 use Rattle.ccr_lines.specs.declared.outlook.Outlook.{Outlook}
 use Rattle.ccr_lines.specs.declared.outlook.Outlook.TheVariants.{Due, NothingNew, ByCommandOnly, NoneSatisfies, OverBudget}
 use Rattle.ccr_page.specs.declared.data.Urgency.{Urgency}
 use Rattle.ccr_page.specs.declared.data.Urgency.TheVariants as urgency
-use Rattle.ccr_page.specs.Statuses.{is_as_urgent}
 use Rattle.ccr_overview.specs.Sayings.{version_word}
 use Rattle.ccr_overview.specs.PageData.{WordData, Plain, Cut, Named, ToRow, WhyData}
 use Rattle.ccr_overview.specs.Each.{each_from}
@@ -23,6 +24,7 @@ use Rattle.ccr_overview.specs.PageRows.{used_for}
 use Rattle.ccr_overview.specs.Scenes.{SceneData, ToldData}
 use Rattle.ccr_overview.specs.Shorts.{version_there}
 use Rattle.ccr_overview.specs.Holds.{HoldData, resource_words, hold_words, holds, worst, told_holds}
+use Rattle.ccr_overview.specs.Stopping.{pair_of}
 use Rattle.ccr_overview.specs.Waits.{none_words}
 
 -- ---- the next build
@@ -56,25 +58,36 @@ abbrev pub budget_words : List WordData
 budget_words = Plain (codes "isn't decided: the search goes over the budget; --budget N allows more") ∷ []
 
 -- ---- what holds it
--- the words before what holds an input: the first, and each other
-abbrev pub start_words : Bool → ℕ → Text
-start_words by_itself k =
-    if by_itself then (if k == 0 then codes "stays at " else codes "; at ")
-    else (if k == 0 then codes "is built by command only; the next build would take " else codes "; ")
+-- a build took for an input the version that the next build would take
+abbrev pub took_same : SceneData → TakenData → Option UsedData → Bool
+took_same s t None = false
+took_same s t (Some u) = is_pair (pair_of s t t.place) (u.scope, u.place)
 
--- what holds an input, behind the others; nothing behind the first three
-abbrev pub told_hold : SceneData → Bool → Bool → ℕ → HoldData → List WordData
-told_hold s several by_itself k h =
-    if nat_lt k 3 then Plain (start_words by_itself k) ∷ hold_words s several h else []
+-- AN INPUT STAYS at a version if the newest good build took for it what the next build would take
+abbrev pub stays : SceneData → TakenData → Option BuildData → Bool
+stays s t None = false
+stays s t (Some b) = took_same s t (used_for b t.name)
+
+-- the words before what holds an input: the first, and each other. What doesn't stay would be taken by the next build
+abbrev pub start_words : Bool → Bool → ℕ → Text
+start_words true true k = if k == 0 then codes "stays at " else codes "; stays at "
+start_words true false k = if k == 0 then codes "would take " else codes "; would take "
+start_words false same k =
+    if k == 0 then codes "is built by command only; the next build would take " else codes "; "
+
+-- what holds an input of a job with this newest good build, behind the others; nothing behind the first three
+abbrev pub told_hold : SceneData → Option BuildData → Bool → Bool → ℕ → HoldData → List WordData
+told_hold s live several by_itself k h =
+    if nat_lt k 3 then Plain (start_words by_itself (stays s h.taken live) k) ∷ hold_words s several h else []
 
 -- that there are more, if there are
 abbrev pub more_words : ℕ → List WordData
 more_words more = if more == 0 then [] else Plain (codes "; and " ++ (decimal more ++ codes " more")) ∷ []
 
 -- what holds the inputs: the first three
-abbrev pub holds_words : SceneData → Bool → Bool → List HoldData → List WordData
-holds_words s several by_itself hs =
-    each_from (told_hold s several by_itself) 0 hs ++ more_words (length hs - 3)
+abbrev pub holds_words : SceneData → Option BuildData → Bool → Bool → List HoldData → List WordData
+holds_words s live several by_itself hs =
+    each_from (told_hold s live several by_itself) 0 hs ++ more_words (length hs - 3)
 
 -- ---- a build that wasn't good
 -- it failed, errored or was aborted
@@ -103,42 +116,50 @@ stopped_words k b = Plain (codes "stopped: ") ∷ build_row k b ∷ Plain (codes
 abbrev pub bad_words : HistoryData → ℕ → JobData → BuildData → List WordData
 bad_words h k j b = stopped_words k b ++ on_words h (nat_lt 1 (length b.used)) (took_on b (inputs j.plan))
 
--- that nothing else holds the job
+-- that nothing holds an input of the job
 abbrev pub alone_words : Bool → Text
 alone_words true = codes ", and nothing newer has come"
 alone_words false = codes ", and only a command makes the next"
 
--- what else holds it, but for pins and the like
-abbrev pub beside_words : SceneData → Bool → List TakenData → List HoldData → List WordData
-beside_words s by_itself ts hs =
-    if length hs == 0 || is_as_urgent urgency.Held (worst hs) then Plain (alone_words by_itself) ∷ []
-    else Plain (codes "; ") ∷ holds_words s (nat_lt 1 (length ts)) by_itself (told_holds hs)
+-- WHAT ELSE HOLDS IT, pins and disabled versions included; only where nothing holds an input, that nothing does
+abbrev pub beside_words : SceneData → Option BuildData → Bool → List TakenData → List HoldData → List WordData
+beside_words s live by_itself ts hs =
+    if length hs == 0 then Plain (alone_words by_itself) ∷ []
+    else Plain (codes "; ") ∷ holds_words s live (nat_lt 1 (length ts)) by_itself (told_holds hs)
 
 -- that its newest build wasn't good
 abbrev pub bad_why : SceneData → ℕ → ToldData → Bool → BuildData → WhyData
 bad_why s k t by_itself b =
     let ts : List TakenData = t.explained.inputs in
-    record { urgency = urgency.Stopped; words = bad_words s.history k t.job b ++ beside_words s by_itself ts (holds s ts) }
+    let live : Option BuildData = live_of t.job.name s.history in
+    record {
+      urgency = urgency.Stopped;
+      words = bad_words s.history k t.job b ++ beside_words s live by_itself ts (holds s ts);
+    }
 
 -- what holds its inputs, if something does
-abbrev pub held_by : SceneData → Bool → List TakenData → List HoldData → Option WhyData
-held_by s by_itself ts hs =
+abbrev pub held_by : SceneData → Option BuildData → Bool → List TakenData → List HoldData → Option WhyData
+held_by s live by_itself ts hs =
     if length hs == 0 then None
-    else Some (record { urgency = worst hs; words = holds_words s (nat_lt 1 (length ts)) by_itself (told_holds hs) })
+    else Some (record {
+      urgency = worst hs;
+      words = holds_words s live (nat_lt 1 (length ts)) by_itself (told_holds hs);
+    })
 
 -- the same
-abbrev pub held_why : SceneData → Bool → List TakenData → Option WhyData
-held_why s by_itself ts = held_by s by_itself ts (holds s ts)
+abbrev pub held_why : SceneData → Bool → ToldData → Option WhyData
+held_why s by_itself t =
+    held_by s (live_of t.job.name s.history) by_itself t.explained.inputs (holds s t.explained.inputs)
 
 -- why it has no newer build, where its newest one has ended so
 abbrev pub ended_why : SceneData → ℕ → ToldData → Bool → BuildData → Option WhyData
 ended_why s k t by_itself b =
-    if is_bad b.status then Some (bad_why s k t by_itself b) else held_why s by_itself t.explained.inputs
+    if is_bad b.status then Some (bad_why s k t by_itself b) else held_why s by_itself t
 
 -- the same of a job that may have no build: nothing is said of one that only a command builds
 abbrev pub standing_why : SceneData → ℕ → ToldData → Bool → Option BuildData → Option WhyData
 standing_why s k t by_itself (Some b) = ended_why s k t by_itself b
-standing_why s k t true None = held_why s true t.explained.inputs
+standing_why s k t true None = held_why s true t
 standing_why s k t false None = None
 
 -- ---- the table

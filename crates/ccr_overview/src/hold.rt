@@ -483,7 +483,8 @@ fn push_if_urgent<'t>(
     hold: Hold<'t>,
 ) -> Result<(), AllocError>
     ensures { OnOk result (map hold_data out.new.items
-        ≡ map hold_data out.old.items ++ (if is_as_urgent urgency (hold_data hold.entry).urgency then hold_data hold.entry ∷ [] else [])) }
+        ≡ map hold_data out.old.items
+        ++ (if is_as_urgent urgency (hold_data hold.entry).urgency then hold_data hold.entry ∷ [] else [])) }
 {
     if is_as_urgent(urgency, hold.urgency) {
         out.push(hold)?;

@@ -1,24 +1,26 @@
 //! Why a job stands still, in a sentence.
-ghost use Rattle.std.specs.Prelude.{◌≡◌, ◌++◌, ◌∷◌, [], codes, nat_lt, if◌then◌else◌, Option, length, map, filter, string_bytes, option_map, IfOk, OnOk};
+ghost use Rattle.std.specs.Prelude.{◌≡◌, ◌++◌, ◌∷◌, [], true, codes, nat_lt, if◌then◌else◌, Option, length, map, filter, string_bytes, option_map, IfOk, OnOk};
 ghost use Rattle.std.specs.Option.{option_copied};
 ghost use Rattle.ccr_pipeline.specs.Inputs.{input_data, inputs};
 ghost use Rattle.ccr_pipeline.specs.JobData.{job_data};
 ghost use Rattle.ccr_lines.specs.Lines.{status_word};
 ghost use Rattle.ccr_overview.specs.Each.{each_from};
+ghost use Rattle.ccr_lines.specs.Live.{live_of};
 ghost use Rattle.ccr_overview.specs.Holds.{hold_data, holds, urgent_ones};
 ghost use Rattle.ccr_overview.specs.PageData.{Plain, word_data, why_data};
 ghost use Rattle.ccr_overview.specs.Scenes.{told_data, scene_data};
 ghost use Rattle.ccr_overview.specs.PageRows.{used_for};
-ghost use Rattle.ccr_overview.specs.Sentences.{build_row, running_why, only, due_of, due_words, none_why, budget_words, start_words, told_hold, more_words, holds_words, is_bad, took_on, on_words, stopped_words, bad_words, alone_words, beside_words, bad_why, held_why, ended_why, standing_why, outlook_why, why_of};
+ghost use Rattle.ccr_overview.specs.Sentences.{build_row, running_why, only, due_of, due_words, none_why, budget_words, took_same, stays, start_words, told_hold, more_words, holds_words, is_bad, took_on, on_words, stopped_words, bad_words, alone_words, beside_words, bad_why, held_by, held_why, ended_why, standing_why, outlook_why, why_of};
 
-use crate::hold::{Hold, holds, is_as_urgent, push_hold_words, push_resource, urgent_holds, worst};
+use crate::hold::{Hold, holds, push_hold_words, push_resource, urgent_holds, worst};
 use crate::row::used_for;
 use crate::scene::{Scene, Told};
 use crate::short::push_version;
+use crate::stopping::{is_same, pair_of};
 use crate::wait::none_words;
 use crate::word::{counted, numbered, push_plain, push_row};
 use ccr_history::{BuildRef, History, Status};
-use ccr_lines::{Outlook, Taken, word_of};
+use ccr_lines::{Outlook, Sought, Taken, newest_of, word_of};
 use ccr_page::{Urgency, Why, Word};
 use ccr_pipeline::{Input, Job, inputs_of};
 use std::alloc::{AllocError, Global};
@@ -104,12 +106,49 @@ fn budget_words(alloc: Global) -> Result<Vec<Word>, AllocError>
 
 // ---- what holds it
 
+/// Whether a build took for an input the version that the next build would take.
+fn took_same(scene: &Scene<'_>, taken: &Taken, build: &BuildRef<'_>) -> bool
+    ensures { result ≡ took_same (scene_data scene.now) taken.now (used_for build.now (taken.now).name) }
+{
+    match used_for(build, taken.name.as_str()) {
+        Some((scope, place)) => is_same(pair_of(scene, taken, taken.place), (scope, place)),
+        None => false,
+    }
+}
+
+/// Whether an input stays at a version: the newest good build took it, and the next build would take it.
+fn stays(scene: &Scene<'_>, taken: &Taken, live: Option<&BuildRef<'_>>) -> bool
+    ensures { result ≡ stays (scene_data scene.now) taken.now (option_copied live.entry) }
+{
+    match live {
+        Some(build) => took_same(scene, taken, build),
+        None => false,
+    }
+}
+
+/// The words before what an input of a job takes that schedules build.
+fn scheduled_words(same: bool, position: usize) -> &'static str
+    ensures { result.now ≡ start_words true same position }
+{
+    if same {
+        if position == 0 {
+            "stays at "
+        } else {
+            "; stays at "
+        }
+    } else if position == 0 {
+        "would take "
+    } else {
+        "; would take "
+    }
+}
+
 /// The words before what holds an input.
-fn start_words(by_itself: bool, position: usize) -> &'static str
-    ensures { result.now ≡ start_words by_itself position }
+fn start_words(by_itself: bool, same: bool, position: usize) -> &'static str
+    ensures { result.now ≡ start_words by_itself same position }
 {
     if by_itself {
-        if position == 0 { "stays at " } else { "; at " }
+        scheduled_words(same, position)
     } else if position == 0 {
         "is built by command only; the next build would take "
     } else {
@@ -117,23 +156,26 @@ fn start_words(by_itself: bool, position: usize) -> &'static str
     }
 }
 
-/// Adds what holds an input, behind the others; nothing behind the first three.
+/// Adds what holds an input of a job with this newest good build, behind the others; nothing behind the first three.
 fn push_told(
     alloc: Global,
     out: &mut Vec<Word>,
     scene: &Scene<'_>,
+    live: Option<&BuildRef<'_>>,
     several: bool,
     by_itself: bool,
     position: usize,
     hold: &Hold<'_>,
 ) -> Result<(), AllocError>
     ensures { OnOk result (map word_data out.new.items ≡ map word_data out.old.items
-        ++ told_hold (scene_data scene.now) several by_itself position (hold_data hold.now)) }
+        ++ told_hold (scene_data scene.now) (option_copied live.entry) several by_itself position
+        (hold_data hold.now)) }
 {
     if position >= 3 {
         return Ok(());
     }
-    push_plain(alloc, out, start_words(by_itself, position))?;
+    let same = stays(scene, hold.taken, live);
+    push_plain(alloc, out, start_words(by_itself, same, position))?;
     push_hold_words(alloc, out, scene, several, hold)
 }
 
@@ -142,15 +184,17 @@ fn push_each(
     alloc: Global,
     out: &mut Vec<Word>,
     scene: &Scene<'_>,
+    live: Option<&BuildRef<'_>>,
     several: bool,
     by_itself: bool,
     holds: &[Hold<'_>],
 ) -> Result<(), AllocError>
     ensures { OnOk result (map word_data out.new.items ≡ map word_data out.old.items
-        ++ each_from (told_hold (scene_data scene.now) several by_itself) 0 (map hold_data holds.now)) }
+        ++ each_from (told_hold (scene_data scene.now) (option_copied live.entry) several by_itself) 0
+        (map hold_data holds.now)) }
 {
     for (position, hold) in holds.iter().enumerate() {
-        push_told(alloc, out, scene, several, by_itself, position, hold)?;
+        push_told(alloc, out, scene, live, several, by_itself, position, hold)?;
     }
     Ok(())
 }
@@ -171,14 +215,16 @@ fn push_holds(
     alloc: Global,
     out: &mut Vec<Word>,
     scene: &Scene<'_>,
+    live: Option<&BuildRef<'_>>,
     several: bool,
     by_itself: bool,
     holds: &[Hold<'_>],
 ) -> Result<(), AllocError>
     ensures { OnOk result (map word_data out.new.items ≡ map word_data out.old.items
-        ++ holds_words (scene_data scene.now) several by_itself (map hold_data holds.now)) }
+        ++ holds_words (scene_data scene.now) (option_copied live.entry) several by_itself
+        (map hold_data holds.now)) }
 {
-    push_each(alloc, out, scene, several, by_itself, holds)?;
+    push_each(alloc, out, scene, live, several, by_itself, holds)?;
     push_more(alloc, out, holds.len().saturating_sub(3))
 }
 
@@ -187,16 +233,18 @@ fn push_urgent(
     alloc: Global,
     out: &mut Vec<Word>,
     scene: &Scene<'_>,
+    live: Option<&BuildRef<'_>>,
     by_itself: bool,
     inputs: &[Taken],
     urgency: Urgency,
 ) -> Result<(), AllocError>
     ensures { let s = scene_data scene.now in let ts = inputs.now in
         OnOk result (map word_data out.new.items ≡ map word_data out.old.items
-        ++ holds_words s (nat_lt 1 (length ts)) by_itself (urgent_ones urgency (holds s ts))) }
+        ++ holds_words s (option_copied live.entry) (nat_lt 1 (length ts)) by_itself
+        (urgent_ones urgency (holds s ts))) }
 {
     let told = urgent_holds(alloc, scene, urgency, inputs)?;
-    push_holds(alloc, out, scene, inputs.len() > 1, by_itself, &told)?;
+    push_holds(alloc, out, scene, live, inputs.len() > 1, by_itself, &told)?;
     Ok(())
 }
 
@@ -325,7 +373,7 @@ fn bad_words(
     Ok(words)
 }
 
-/// That nothing else holds the job.
+/// That nothing holds an input of the job.
 fn alone_words(by_itself: bool) -> &'static str
     ensures { result.now ≡ alone_words by_itself }
 {
@@ -336,25 +384,76 @@ fn alone_words(by_itself: bool) -> &'static str
     }
 }
 
-/// Adds what else holds a job, but for pins and the like.
+/// Adds what holds inputs of a job that are so urgent, behind a semicolon.
+fn push_further(
+    alloc: Global,
+    out: &mut Vec<Word>,
+    scene: &Scene<'_>,
+    live: Option<&BuildRef<'_>>,
+    by_itself: bool,
+    inputs: &[Taken],
+    urgency: Urgency,
+) -> Result<(), AllocError>
+    ensures { let s = scene_data scene.now in let ts = inputs.now in
+        OnOk result (map word_data out.new.items ≡ map word_data out.old.items
+        ++ Plain (codes "; ") ∷ holds_words s (option_copied live.entry) (nat_lt 1 (length ts)) by_itself
+        (urgent_ones urgency (holds s ts))) }
+{
+    push_plain(alloc, out, "; ")?;
+    push_urgent(alloc, out, scene, live, by_itself, inputs, urgency)
+}
+
+/// Adds what else holds a job, pins and the like included; or that nothing holds an input of it.
 fn push_beside(
     alloc: Global,
     out: &mut Vec<Word>,
     scene: &Scene<'_>,
+    live: Option<&BuildRef<'_>>,
     by_itself: bool,
     inputs: &[Taken],
 ) -> Result<(), AllocError>
     ensures { let s = scene_data scene.now in let ts = inputs.now in
         OnOk result (map word_data out.new.items ≡ map word_data out.old.items
-        ++ beside_words s by_itself ts (holds s ts)) }
+        ++ beside_words s (option_copied live.entry) by_itself ts (holds s ts)) }
 {
     let all = holds(alloc, scene, inputs)?;
-    let urgency = worst(&all);
-    if all.is_empty() || is_as_urgent(Urgency::Held, urgency) {
+    if all.is_empty() {
         return push_plain(alloc, out, alone_words(by_itself));
     }
-    push_plain(alloc, out, "; ")?;
-    push_urgent(alloc, out, scene, by_itself, inputs, urgency)
+    push_further(alloc, out, scene, live, by_itself, inputs, worst(&all))
+}
+
+/// The newest good build of a job.
+fn live_of<'h>(scene: &Scene<'h>, told: &Told<'_>) -> Option<BuildRef<'h>>
+    ensures { result ≡ live_of (told_data told.now).job.name (scene_data scene.now).history }
+{
+    newest_of(scene.history, Sought::Succeeded, told.job.name.as_str())
+}
+
+/// That a job's newest build wasn't good, where this is its newest good one.
+fn bad_beside(
+    alloc: Global,
+    scene: &Scene<'_>,
+    at: usize,
+    told: &Told<'_>,
+    live: Option<&BuildRef<'_>>,
+    by_itself: bool,
+    build: &BuildRef<'_>,
+) -> Result<Vec<Word>, AllocError>
+    ensures { let s = scene_data scene.now in let t = told_data told.now in
+        IfOk result (λ words. map word_data words.items ≡ bad_words s.history at t.job build.now
+        ++ beside_words s (option_copied live.entry) by_itself t.explained.inputs (holds s t.explained.inputs)) }
+{
+    let mut words = bad_words(alloc, scene.history, at, told.job, build)?;
+    push_beside(
+        alloc,
+        &mut words,
+        scene,
+        live,
+        by_itself,
+        &told.explained.inputs,
+    )?;
+    Ok(words)
 }
 
 /// That a job's newest build wasn't good.
@@ -369,8 +468,8 @@ fn bad_why(
     ensures { IfOk result (λ why. why_data why
         ≡ bad_why (scene_data scene.now) at (told_data told.now) by_itself build.now) }
 {
-    let mut words = bad_words(alloc, scene.history, at, told.job, build)?;
-    push_beside(alloc, &mut words, scene, by_itself, &told.explained.inputs)?;
+    let live = live_of(scene, told);
+    let words = bad_beside(alloc, scene, at, told, live.as_ref(), by_itself, build)?;
     Ok(Why {
         urgency: Urgency::Stopped,
         words,
@@ -381,6 +480,7 @@ fn bad_why(
 fn urgent_why(
     alloc: Global,
     scene: &Scene<'_>,
+    live: Option<&BuildRef<'_>>,
     by_itself: bool,
     inputs: &[Taken],
     urgency: Urgency,
@@ -389,12 +489,33 @@ fn urgent_why(
         IfOk result (λ why. why_data why ≡ record {
           urgency = urgency;
           words =
-              holds_words s (nat_lt 1 (length ts)) by_itself (urgent_ones urgency (holds s ts));
+              holds_words s (option_copied live.entry) (nat_lt 1 (length ts)) by_itself
+              (urgent_ones urgency (holds s ts));
         }) }
 {
     let mut words = Vec::new(alloc);
-    push_urgent(alloc, &mut words, scene, by_itself, inputs, urgency)?;
+    push_urgent(alloc, &mut words, scene, live, by_itself, inputs, urgency)?;
     Ok(Why { urgency, words })
+}
+
+/// What holds the inputs of a job with this newest good build, if something does.
+fn held_by(
+    alloc: Global,
+    scene: &Scene<'_>,
+    live: Option<&BuildRef<'_>>,
+    by_itself: bool,
+    inputs: &[Taken],
+) -> Result<Option<Why>, AllocError>
+    ensures { let s = scene_data scene.now in let ts = inputs.now in
+        IfOk result (λ why. option_map why_data why
+        ≡ held_by s (option_copied live.entry) by_itself ts (holds s ts)) }
+{
+    let all = holds(alloc, scene, inputs)?;
+    if all.is_empty() {
+        return Ok(None);
+    }
+    let why = urgent_why(alloc, scene, live, by_itself, inputs, worst(&all))?;
+    Ok(Some(why))
 }
 
 /// What holds the inputs of a job, if something does.
@@ -402,16 +523,19 @@ fn held_why(
     alloc: Global,
     scene: &Scene<'_>,
     by_itself: bool,
-    inputs: &[Taken],
+    told: &Told<'_>,
 ) -> Result<Option<Why>, AllocError>
-    ensures { IfOk result (λ why. option_map why_data why ≡ held_why (scene_data scene.now) by_itself inputs.now) }
+    ensures { IfOk result (λ why. option_map why_data why
+        ≡ held_why (scene_data scene.now) by_itself (told_data told.now)) }
 {
-    let all = holds(alloc, scene, inputs)?;
-    if all.is_empty() {
-        return Ok(None);
-    }
-    let why = urgent_why(alloc, scene, by_itself, inputs, worst(&all))?;
-    Ok(Some(why))
+    let live = live_of(scene, told);
+    held_by(
+        alloc,
+        scene,
+        live.as_ref(),
+        by_itself,
+        &told.explained.inputs,
+    )
 }
 
 /// Why a job has no newer build, where its newest one has ended.
@@ -430,7 +554,7 @@ fn ended_why(
         let why = bad_why(alloc, scene, at, told, by_itself, build)?;
         return Ok(Some(why));
     }
-    held_why(alloc, scene, by_itself, &told.explained.inputs)
+    held_why(alloc, scene, by_itself, told)
 }
 
 /// The same of a job that may have no build: nothing is said of one that only a command builds.
@@ -449,7 +573,7 @@ fn standing_why(
         return ended_why(alloc, scene, at, told, by_itself, build);
     }
     if by_itself {
-        held_why(alloc, scene, by_itself, &told.explained.inputs)
+        held_why(alloc, scene, by_itself, told)
     } else {
         Ok(None)
     }

@@ -234,7 +234,8 @@ fn key_short(alloc: Global, key: &str) -> Result<String, AllocError>
 
 /// A version, by its key.
 fn key_version(alloc: Global, key: String) -> Result<Version, AllocError>
-    ensures { IfOk result (λ v. version_data v ≡ record { key = string_bytes key; short = short (fields_in (string_bytes key)) }) }
+    ensures { IfOk result (λ v. version_data v
+        ≡ record { key = string_bytes key; short = short (fields_in (string_bytes key)) }) }
 {
     let short = key_short(alloc, key.as_str())?;
     Ok(Version { key, short })

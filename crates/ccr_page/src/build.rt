@@ -94,7 +94,8 @@ fn push_log_cell(
     job: &Job,
     number: u32,
 ) -> Result<(), AllocError>
-    ensures { OnOk result (Adds out.old.items out.new.items (log_cell (string_bytes directory.now) (string_bytes job.now.name) number)) }
+    ensures { OnOk result (Adds out.old.items out.new.items
+        (log_cell (string_bytes directory.now) (string_bytes job.now.name) number)) }
 {
     push(out, &[Markup("<td><a href=\"")])?;
     push_log_link(out, directory, &job.name, number)?;

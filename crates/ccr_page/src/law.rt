@@ -14,8 +14,9 @@ pub fn no_text_is_markup()
     ensures template { (ps : List PieceData) → markup_in (written ps) ≡ markup_in (template ps) }
 {}
 
-/// No link to a log leads away from the server of its page, whatever the directory of logs and the job's name are: it doesn't begin
-/// with two slashes, behind which a server's name stands, and it has no colon, so no scheme. Nothing runs.
+/// No link to a log leads away from the server of its page, whatever the directory of logs and the job's name are: it
+/// doesn't begin with two slashes, behind which a server's name stands, and it has no colon, so no scheme. Nothing
+/// runs.
 pub fn no_link_leaves()
     ensures { (directory name : Text) (n : ℕ) → Stays (written (log_link directory name n)) }
 {}

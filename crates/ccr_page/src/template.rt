@@ -140,8 +140,8 @@ pub(crate) const SKIP: &str = "<a class=skip href=#key>Skip the picture</a>";
 pub(crate) const LEGEND: &str =
     "<p class=\"key\" id=\"key\"><b class=\"s\">succeeded</b> <b class=\"f\">failed</b> <b class=\"e\">\
     errored</b> <b class=\"a\">aborted</b> <b class=\"r\">running</b> <b class=\"n\">no builds</b> <b \
-    class=\"o\">resource</b> <b class=\"q\">pinned or disabled</b> <i>a new version makes a build</i> <i class=\"d\">it doesn’t</i> <i class=\"h\">\
-    a newer version failed there</i></p>
+    class=\"o\">resource</b> <b class=\"q\">pinned</b> <i>a new version makes a build</i> <i \
+    class=\"d\">it doesn’t</i> <i class=\"h\">a newer version failed there</i></p>
 ";
 
 /// Where the table of resources begins.

@@ -3,22 +3,24 @@
 //! `pipeline JSON` begins a new history with this pipeline, `again JSON` sets another one in the history.
 //! `versions RESOURCE JSON` reports a list of versions; `tried RESOURCE JSON` does so and takes the report back;
 //! `fill RESOURCE N` reports the versions `{"n":"1"}` to `{"n":"N"}`; `place RESOURCE JSON` asks for a version's place.
-//! `build JOB INPUT=SCOPE.PLACE ..` makes a build; `end JOB NUMBER STATUS SCOPE.PLACE ..` ends one; `failed JOB N` makes N builds
-//! and ends them as failed; `used JOB INPUT SCOPE.PLACE` asks whether a build of the job used this place.
-//! `pin RESOURCE JSON`, `unpin RESOURCE`, `disable RESOURCE PLACE`, `enable RESOURCE PLACE`. `problem JOB` prints the problem of a job, `resolve JOB BUDGET` its proof.
-//! `history` prints the history; `copy` goes on with a copy of it.
+//! `build JOB INPUT=SCOPE.PLACE ..` makes a build; `end JOB NUMBER STATUS SCOPE.PLACE ..` ends one; `failed JOB N`
+//! makes N builds and ends them as failed; `used JOB INPUT SCOPE.PLACE` asks whether a build of the job used this
+//! place. `pin RESOURCE JSON`, `unpin RESOURCE`, `disable RESOURCE PLACE`, `enable RESOURCE PLACE`. `problem JOB`
+//! prints the problem of a job, `resolve JOB BUDGET` its proof. `history` prints the history; `copy` goes on with a
+//! copy of it.
 
-ghost use Rattle.std.specs.Prelude.{◌≤◌};
+ghost use Rattle.std.specs.Prelude.{◌≡◌, ◌≤◌, None};
+ghost use Rattle.ccr_history.specs.History.{no_history};
 
 use crate::problems::proof_text;
 use anyhow::{Result, anyhow, bail};
 use ccr_choice::{Problem, write_problem};
-use ccr_history::{History, HistoryFault, Scope, Status, Version};
+use ccr_history::{History, HistoryFault, Scope, Status, Used, Version};
 use ccr_pipeline::{Pipeline, read};
 use ccr_problem::problem_of;
 use ccr_rows::{
-    Player, number_of, numbered, pair_of, pairs_of, pin_of, scope_in, split, status_of, text_of,
-    used_places, version_of, versions_of,
+    FromWords, Player, Told, number_of, numbered, pair_of, pin_of, scope_in, split, status_of,
+    version_of,
 };
 use std::alloc::{AllocError, Global};
 
@@ -93,7 +95,9 @@ impl Player for Histories {
 
 impl Histories {
     /// Nothing seen, and no pipeline.
-    pub(crate) fn new(alloc: Global) -> Histories {
+    pub(crate) fn new(alloc: Global) -> Histories
+        ensures { (result.history ≡ no_history) × (result.pipeline ≡ None) }
+    {
         Histories {
             history: History::new(alloc),
             pipeline: None,
@@ -122,7 +126,7 @@ impl Histories {
             "problem" => self.problem(alloc, first),
             "resolve" => self.resolved(alloc, first, rest),
             "copy" => self.copied(alloc),
-            "history" => Ok(text_of(alloc, &self.history)?),
+            "history" => Ok(self.history.told(alloc)?),
             _ => bail!("no line begins with {kind}"),
         }
     }
@@ -152,7 +156,7 @@ impl Histories {
     }
 
     fn reported(&mut self, alloc: Global, name: &str, text: &str) -> Result<String> {
-        let versions = versions_of(alloc, text)?;
+        let versions = Vec::<Version>::from_words(alloc, text)?;
         self.append(alloc, name, &versions)
     }
 
@@ -167,7 +171,7 @@ impl Histories {
     }
 
     fn tried(&mut self, alloc: Global, name: &str, text: &str) -> Result<String> {
-        let versions = versions_of(alloc, text)?;
+        let versions = Vec::<Version>::from_words(alloc, text)?;
         self.take_back(alloc, name, &versions)
     }
 
@@ -190,7 +194,7 @@ impl Histories {
     }
 
     fn made(&mut self, alloc: Global, job: &str, words: &str) -> Result<String> {
-        let used = used_places(alloc, words)?;
+        let used = Vec::<Used>::from_words(alloc, words)?;
         if !self.history.can_use(&used) {
             bail!("no such places")
         }
@@ -203,7 +207,7 @@ impl Histories {
     fn ended(&mut self, alloc: Global, job: &str, words: &str) -> Result<String> {
         let (number, words) = split(words);
         let (status, words) = split(words);
-        let moved = pairs_of(alloc, words)?;
+        let moved = Vec::<(u32, u32)>::from_words(alloc, words)?;
         if !self.history.can_move(&moved) {
             bail!("no such places")
         }

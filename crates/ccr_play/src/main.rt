@@ -14,17 +14,20 @@
 //! | `histories` | a history, and the problems of its jobs |
 //! | `stores` | histories that a store keeps and loads |
 //!
-//! Each has a module of its name, which says what its lines are. With the word `--timed` behind it, nothing but each line's
-//! time is printed. `ccr_play_server` plays those of servers. `ccr_play stores DATABASE` keeps the histories in files of this name too.
+//! Each has a module of its name, which says what its lines are. With the word `--timed` behind it, nothing but each
+//! line's time is printed. `ccr_play_server` plays those of servers. `ccr_play stores DATABASE` keeps the histories in
+//! files of this name too.
 //!
 //! `ccr_play check KIND.cases ..` plays the lines of files, and compares what is told with the files: a line for each file. The
 //! gate runs this on the files of `data/`, whose answers were worked out by hand.
 //!
-//! Other calls: `ccr_play pipeline` reads a whole pipeline. `ccr_play resolve BUDGET` reads a problem and prints
-//! the proof of its best choice, or that none satisfies, of at most BUDGET nodes; `ccr_play choose BUDGET` prints the line of
-//! the same claim alone. Statuses: 0 done, 1 refused or answered otherwise, 2 usage, 3 over budget, 4 out of memory or unreadable.
+//! Other calls: `ccr_play pipeline` reads a whole pipeline. `ccr_play resolve BUDGET` reads a problem and prints the
+//! proof of its best choice, or that none satisfies, of at most BUDGET nodes; `ccr_play choose BUDGET` prints the line
+//! of the same claim alone. Statuses: 0 done, 1 refused or answered otherwise, 2 usage, 3 over budget, 4 out of memory
+//! or unreadable.
 #![tactic(auto)]
 
+mod answers;
 mod builds;
 mod calls;
 mod histories;
@@ -38,9 +41,9 @@ mod stores;
 mod versions;
 
 use calls::{answer_choose, answer_pipeline, answer_resolve};
-use ccr_rows::{Answer, Telling, arguments, check, input, play_input, played, tell};
+use ccr_rows::{Answer, Given, Order, Plays, Telling, check, play_input, tell};
 use kind::LineKind;
-use order::{Call, Whole, call_of};
+use order::{Call, Whole};
 use std::alloc::{AllocError, Global};
 use std::io;
 use std::process::ExitCode;
@@ -49,7 +52,7 @@ use stores::Stores;
 /// What is told of lines of stores on standard input, whose histories are kept in files of this name too.
 fn keep(rt: &HostRuntime, path: &str) -> io::Result<Answer> {
     let stores = Stores::new(rt, Some(path));
-    let lines = played(rt, stores, input(rt)?.as_str(), Telling::Answers)?;
+    let lines = stores.play(rt, rt.input()?.as_str(), Telling::Answers)?;
     Ok(Answer { lines, status: 0 })
 }
 
@@ -64,7 +67,7 @@ fn answer_text(alloc: Global, text: &[u8], whole: Whole) -> Result<Answer, Alloc
 
 /// What is made of standard input.
 fn answer_input(rt: &HostRuntime, whole: Whole) -> io::Result<Answer> {
-    let text = input(rt)?;
+    let text = rt.input()?;
     Ok(answer_text(rt.alloc(), text.as_bytes(), whole)?)
 }
 
@@ -79,8 +82,8 @@ fn answer_of(rt: &HostRuntime, call: Call<'_>) -> io::Result<Answer> {
 
 /// What the program's words ask for; None where they ask for nothing that there is.
 fn answered(rt: &HostRuntime) -> io::Result<Option<Answer>> {
-    let words = arguments(rt)?;
-    match call_of(&words) {
+    let words = rt.arguments()?;
+    match Call::of_words(&words) {
         Some(call) => Ok(Some(answer_of(rt, call)?)),
         None => Ok(None),
     }

@@ -1,9 +1,11 @@
 //! Pipelines and task files: a text, and what is read of it or told.
 //!
-//! `pipeline JSON` reads a pipeline, and `task JSON` a task file. `example JSON` does so too, and gives a text that lines behind it speak
-//! of: in place of a text they may have the word `example`, and `pipeline-variant OLD -> NEW` reads the example with a piece of it replaced, where
-//! it stands first. `pipeline-parts`, `pipeline-unused` and `pipeline-inputs` tell more of a pipeline, `task-variables` of a task file.
-//! `pipeline-bytes` has the bytes of a text in hexadecimal, and `pipeline-of COUNT WHAT` makes one with so many of something.
+//! `pipeline JSON` reads a pipeline, and `task JSON` a task file. `example JSON` does so too, and gives a text that
+//! lines behind it speak of: in place of a text they may have the word `example`, and `pipeline-variant OLD -> NEW`
+//! reads the example with a piece of it replaced, where it stands first. `pipeline-parts`, `pipeline-unused` and
+//! `pipeline-inputs` tell more of a pipeline, `task-variables` of a task file. `pipeline-bytes` has the bytes of a text
+//! in hexadecimal, and `pipeline-of COUNT WHAT` makes one with so many of something.
+ghost use Rattle.std.specs.Prelude.{◌≡◌, [], string_bytes};
 
 use ccr_pipeline::{Input, Pipeline, ReadFault, TaskConfig, Wanted, inputs_of, read, read_task};
 use ccr_rows::{Player, split};
@@ -17,7 +19,9 @@ pub(crate) struct Pipelines {
 
 impl Pipelines {
     /// The empty example.
-    pub(crate) fn new(alloc: Global) -> Pipelines {
+    pub(crate) fn new(alloc: Global) -> Pipelines
+        ensures { string_bytes result.example ≡ [] }
+    {
         Pipelines {
             example: String::new(alloc),
         }

@@ -1,12 +1,15 @@
 //! Problems, claims, proofs and what is said of them.
 //!
-//! A text is given in one line, with `\n` where a line of it ends. `problem TEXT`, `claim TEXT` and `proof TEXT` read one, and write it
-//! again. `judge TEXT` is what the checker says of a text, and its status. `example TEXT` reads a problem that lines behind it speak of:
-//! `judge-behind TEXT` is `judge` of the example with a text behind it, `satisfies PLACES / BUILDS` what is said of a choice,
-//! `check TEXT` of a proof, and `resolve BUDGET` finds the best choice. `later PLACES / PLACES` compares two lists, and
-//! `preferred PLACES / PLACES` compares them in the order of the example.
-ghost use Rattle.std.specs.Prelude.{◌≤◌};
+//! A text is given in one line, with `\n` where a line of it ends. `problem TEXT`, `claim TEXT` and `proof TEXT` read
+//! one, and write it again. `judge TEXT` is what the checker says of a text, and its status. `example TEXT` reads a
+//! problem that lines behind it speak of: `judge-behind TEXT` is `judge` of the example with a text behind it,
+//! `satisfies PLACES / BUILDS` what is said of a choice, `check TEXT` of a proof, and `resolve BUDGET` finds the best
+//! choice. `later PLACES / PLACES` compares two lists, and `preferred PLACES / PLACES` compares them in the order of
+//! the example.
+ghost use Rattle.std.specs.Prelude.{◌≡◌, ◌≤◌, [], string_bytes, IfOk, IfNone};
+ghost use Rattle.ccr_choice.specs.Preference.{order_of};
 ghost use Rattle.ccr_proof.specs.Claim.{IsClaim};
+ghost use Rattle.ccr_resolve.specs.NodeBound.{IsBelowNodeBound};
 
 use anyhow::{Result, anyhow};
 use ccr_check::{CheckFault, check, judge};
@@ -45,7 +48,7 @@ fn back(is_same: bool) -> &'static str {
 }
 
 /// Adds numbers, each behind a blank.
-pub(crate) fn push_numbers(text: &mut String, numbers: &[u32]) -> Result<(), AllocError> {
+fn push_numbers(text: &mut String, numbers: &[u32]) -> Result<(), AllocError> {
     for number in numbers {
         write!(text, " {number}")?;
     }
@@ -197,6 +200,7 @@ pub(crate) fn proof_text(
 ) -> Result<Option<String>, AllocError>
     requires least { 1 ≤ budget }
     requires most { budget ≤ 1000000 }
+    ensures { IfOk result (λ told. IfNone told (IsBelowNodeBound (order_of problem.now) problem.now budget)) }
 {
     let index = build_index(alloc, problem)?;
     match resolve(alloc, problem, &index, budget)? {
@@ -248,7 +252,9 @@ fn answered(alloc: Global, example: &str, kind: &str, given: &str) -> Result<Str
 
 impl Problems {
     /// No example.
-    pub(crate) fn new(alloc: Global) -> Problems {
+    pub(crate) fn new(alloc: Global) -> Problems
+        ensures { string_bytes result.example ≡ [] }
+    {
         Problems {
             example: String::new(alloc),
         }

@@ -1,22 +1,22 @@
 //! Events of a core.
 //!
-//! `core BUDGET` begins a core with nothing seen and no pipeline, whose searches take at most so many nodes. Each other line is
-//! an event, and its answer the core's reply or its fault: `pipeline JSON`, `checked RESOURCE VERSIONS`, `fill RESOURCE COUNT`,
-//! `schedule JOB`, `trigger JOB`, `answer JOB NUMBER TURN ANSWER`, `abort JOB NUMBER`, `pin RESOURCE PIN`, `unpin RESOURCE`,
-//! `disable RESOURCE PLACE`, `enable RESOURCE PLACE`, `restart`. Or it asks what the core holds: `builds`, `tables`, `wants JOB NUMBER`, `index JOB`. `docs/FORMATS.md` has the
-//! answers.
+//! `core BUDGET` begins a core with nothing seen and no pipeline, whose searches take at most so many nodes. Each other
+//! line is an event, and its answer the core's reply or its fault: `pipeline JSON`, `checked RESOURCE VERSIONS`,
+//! `fill RESOURCE COUNT`, `schedule JOB`, `trigger JOB`, `answer JOB NUMBER TURN ANSWER`, `abort JOB NUMBER`,
+//! `pin RESOURCE PIN`, `unpin RESOURCE`, `disable RESOURCE PLACE`, `enable RESOURCE PLACE`, `restart`. Or it asks what
+//! the core holds: `builds`, `tables`, `wants JOB NUMBER`, `index JOB`. `docs/FORMATS.md` has the answers.
 //!
 //! `watched BUDGET` begins a core so, too, and after each event in it the index that it keeps for each job is compared with one
 //! that is built anew: where they don't answer alike, the event's answer has a second line.
-ghost use Rattle.std.specs.Prelude.{◌≤◌};
+ghost use Rattle.std.specs.Prelude.{◌≡◌, ◌≤◌, None, false};
 ghost use Rattle.ccr_proof.specs.declared.proof.TheConstants.{MOST_NODES};
 
 mod index;
 
-use crate::event::event_of;
-use crate::events::index::{first_other, index_text};
-use crate::reply::{MOST_BYTES, fault_name, push_reply};
-use crate::show::{builds_text, tables_text, wants_text};
+use crate::event::FromLine;
+use crate::events::index::Indexed;
+use crate::reply::{InWords, MOST_BYTES};
+use crate::show::Held;
 use ccr_core::{Core, CoreFault, Event};
 use ccr_history::History;
 use ccr_rows::{LineFault, Player, number_of, split};
@@ -44,9 +44,9 @@ fn new_core(alloc: Global, budget: u32) -> Result<Core, LineFault>
 fn step(alloc: Global, core: &mut Core, event: Event) -> Result<String, LineFault> {
     let mut text = String::with_capacity(alloc, MOST_BYTES)?;
     match core.step(alloc, event) {
-        Ok((reply, _)) => push_reply(&mut text, reply)?,
+        Ok((reply, _)) => reply.push_words(&mut text)?,
         Err(CoreFault::NoMemory) => return Err(LineFault::NoMemory),
-        Err(fault) => text.push_str(fault_name(fault))?,
+        Err(fault) => fault.push_words(&mut text)?,
     }
     Ok(text)
 }
@@ -55,14 +55,14 @@ fn step(alloc: Global, core: &mut Core, event: Event) -> Result<String, LineFaul
 fn answered(alloc: Global, core: &mut Core, line: &str) -> Result<String, LineFault> {
     let (kind, given) = split(line);
     match kind {
-        "builds" => Ok(builds_text(alloc, core.history())?),
-        "tables" => Ok(tables_text(alloc, core.history())?),
+        "builds" => Ok(core.builds_text(alloc)?),
+        "tables" => Ok(core.tables_text(alloc)?),
         "wants" => {
             let (job, number) = split(given);
-            Ok(wants_text(alloc, core, job, number_of(number)?)?)
+            Ok(core.wants_text(alloc, job, number_of(number)?)?)
         }
-        "index" => Ok(index_text(alloc, core, given)?),
-        _ => step(alloc, core, event_of(alloc, kind, given)?),
+        "index" => Ok(core.index_text(alloc, given)?),
+        _ => step(alloc, core, Event::from_line(alloc, kind, given)?),
     }
 }
 
@@ -70,9 +70,9 @@ fn answered(alloc: Global, core: &mut Core, line: &str) -> Result<String, LineFa
 /// been done: where memory is refused, the indexes are compared once more.
 fn watched(alloc: Global, core: &Core, answer: String) -> Result<String, AllocError> {
     let mut answer = answer;
-    let other = match first_other(alloc, core) {
+    let other = match core.first_other(alloc) {
         Ok(other) => other,
-        Err(_) => first_other(alloc, core)?,
+        Err(_) => core.first_other(alloc)?,
     };
     if let Some(job) = other {
         write!(answer, "\nthe index of {job} differs")?;
@@ -82,7 +82,9 @@ fn watched(alloc: Global, core: &Core, answer: String) -> Result<String, AllocEr
 
 impl Events {
     /// No core.
-    pub(crate) fn new() -> Events {
+    pub(crate) fn new() -> Events
+        ensures { (result.core ≡ None) × (result.is_watched ≡ false) }
+    {
         Events {
             core: None,
             is_watched: false,

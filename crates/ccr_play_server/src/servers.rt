@@ -6,12 +6,14 @@
 //!
 //! The script of the next server: `ends WORD ..` (`STATUS`, `STATUS:OUTPUT`, `numbers:COUNT` for a check that found so
 //! many versions, `killed`, `too-long`, `not-started`: how programs end, in turn), `folders N` and `no-folders N` (N
-//! calls for folders are done, or fail), `file TEXT` (a file that is read), `commits N [FAULT]` (the storage fails after
-//! N commits: `refused`, `no-memory`, `interrupted`, `not-ours`, or as a disk where no fault is named), `runs JOB [N]` (the history
-//! that it begins with has a build of this job that runs, or N of them), `notes` (what it tells on standard error is shown),
-//! `launcher` (`/l` starts all programs). `open` makes a server over it, with a history that is empty otherwise, types in `/t`
-//! and builds in `/w`. Then `round`, `turn`, and the commands of `ccr_run`, of which `set-pipeline` and tasks read the script's
-//! files. `--json` stands before a command's other words.
+//! calls for folders are done, or fail), `file TEXT` (a file that is read), `commits N [FAULT]` (the storage fails
+//! after N commits: `refused`, `no-memory`, `interrupted`, `not-ours`, or as a disk where no fault is named),
+//! `runs JOB [N]` (the history that it begins with has a build of this job that runs, or N of them), `notes` (what it
+//! tells on standard error is shown), `launcher` (`/l` starts all programs). `open` makes a server over it, with a
+//! history that is empty otherwise, types in `/t` and builds in `/w`. Then `round`, `turn`, and the commands of
+//! `ccr_run`, of which `set-pipeline` and tasks read the script's files. `--json` stands before a command's other
+//! words.
+ghost use Rattle.std.specs.Prelude.{◌≡◌, None, IfOk, false};
 
 mod aside;
 mod script;
@@ -29,7 +31,10 @@ use ccr_serve::ServeFault;
 use script::Script;
 use serving::Serving;
 use std::alloc::{AllocError, Global};
+use std::cell::Cell;
 use std::mem;
+use std::rc::Rc;
+use std::string::FromUtf8Error;
 use tape::Tape;
 
 /// A script, the server that was opened last, and what is printed.
@@ -203,48 +208,45 @@ fn printed(
     status
 }
 
+/// A tape on which nothing is written.
+fn empty_tape(alloc: Global) -> Result<Tape, AllocError> {
+    let bytes = Rc::new(alloc, Cell::new(Vec::new(alloc)))?;
+    Ok(Tape { alloc, bytes })
+}
+
+/// What was written on a tape; then nothing is.
+fn taken(tape: &Tape) -> Result<String, FromUtf8Error> {
+    String::from_utf8(tape.bytes.replace(Vec::new(tape.alloc)))
+}
+
 impl Servers {
     /// An empty script, and no server.
-    pub(crate) fn new(alloc: Global) -> Result<Servers, AllocError> {
+    pub(crate) fn new(alloc: Global) -> Result<Servers, AllocError>
+        ensures { IfOk result (λ servers. (servers.serving ≡ None) × (servers.has_notes ≡ false)) }
+    {
         Ok(Servers {
             script: Script::new(alloc),
             serving: None,
-            tape: Tape::new(alloc)?,
+            tape: empty_tape(alloc)?,
             has_notes: false,
         })
-    }
-
-    /// Adds to the script what a line says; false where it says nothing of one.
-    fn add(&mut self, alloc: Global, kind: &str, words: &str) -> Result<bool> {
-        match kind {
-            "ends" => self.script.add_ends(alloc, words)?,
-            "sights" => self.script.add_sights(alloc, words)?,
-            "file" => self.script.add_file(alloc, words)?,
-            "folders" => self.script.add_folders(number_of(words), true)?,
-            "no-folders" => self.script.add_folders(number_of(words), false)?,
-            "commits" => self.script.fail_after(words)?,
-            "runs" => self.script.add_builds(alloc, words)?,
-            "notes" => self.script.has_notes = true,
-            "launcher" => self.script.has_launcher = true,
-            _ => return Ok(false),
-        }
-        Ok(true)
     }
 
     /// What prints on the tape, and tells there if that was asked for.
     fn out(&self, alloc: Global) -> Result<Printed<Tape, Aside>, AllocError> {
         let tape = if self.has_notes {
-            Some(self.tape.another()?)
+            Some(self.tape.clone()?)
         } else {
             None
         };
-        Ok(Printed::new(alloc, self.tape.another()?, Aside { tape }))
+        Ok(Printed::new(alloc, self.tape.clone()?, Aside { tape }))
     }
 
     /// Opens a server over the script; another script begins.
     fn open(&mut self, alloc: Global) -> Result<u8, ServeFault> {
         self.has_notes = self.script.has_notes;
-        let (Ok(tape), Ok(mut out)) = (self.tape.another(), self.out(alloc)) else {
+        let tape: Result<Tape, AllocError> = self.tape.clone();
+        let (Ok(tape), Ok(mut out)) = (tape, self.out(alloc)) else {
             return Err(ServeFault::NoMemory);
         };
         let script = mem::replace(&mut self.script, Script::new(alloc));
@@ -272,11 +274,11 @@ impl Servers {
 
     fn played(&mut self, alloc: Global, line: &str) -> Result<String> {
         let (kind, words) = split(line);
-        if self.add(alloc, kind, words)? {
+        if self.script.add(alloc, kind, words)? {
             return Ok(String::new(alloc));
         }
         let end = self.served(alloc, kind, words);
-        let mut text = self.tape.text()?;
+        let mut text = taken(&self.tape)?;
         push_end(&mut text, end)?;
         Ok(text)
     }

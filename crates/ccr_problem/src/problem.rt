@@ -77,9 +77,10 @@ pub fn problem_of_job(
 /// The problem of a job: what has to be chosen for its next build (Concourse: get step, `passed` and `version`; pinning and
 /// disabling versions).
 ///
-/// Its inputs are those of the job's plan, in plan order. Scopes and named jobs are numbered in order of first mention. An
-/// input with `version: every` keeps the place that the newest build of the job which used it had. It takes a time that grows with the versions in the inputs' scopes and with the
-/// builds of the named jobs, whatever else the history has.
+/// Its inputs are those of the job's plan, in plan order. Scopes and named jobs are numbered in order of first mention.
+/// An input with `version: every` keeps the place that the newest build of the job which used it had. It takes a time
+/// that grows with the versions in the inputs' scopes and with the builds of the named jobs, whatever else the history
+/// has.
 ///
 /// `NoJob` exactly where the pipeline has no such job; `NoMemory` if out of memory.
 pub fn problem_of(

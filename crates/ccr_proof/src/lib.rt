@@ -2,10 +2,10 @@
 //!
 //! A [`Claim`] names a choice as the best one, or says that no choice satisfies. A [`Proof`] is a claim with a tree of
 //! cases, whose root is a [`Node`]: the builds of a job one by one, an input without a possible place, places that are
-//! no better than the claim's, or the same case as an earlier build's. Contracts see a tree without where it lies in memory (`specs/Tree.antt`). When a
-//! tree refutes what is better than a claim, when a proof is accepted, and when a claim is right, is defined here for
-//! all crates that speak of it (`specs/Refutes.antt`, `specs/Right.antt`), with the order of preference as a parameter;
-//! the checker is another crate.
+//! no better than the claim's, or the same case as an earlier build's. Contracts see a tree without where it lies in
+//! memory (`specs/Tree.antt`). When a tree refutes what is better than a claim, when a proof is accepted, and when a
+//! claim is right, is defined here for all crates that speak of it (`specs/Refutes.antt`, `specs/Right.antt`), with the
+//! order of preference as a parameter; the checker is another crate.
 //!
 //! Claims and proofs have one text each, and each text one claim or proof: [`write_claim`], [`read_claim`],
 //! [`write_proof`], [`read_proof`]. A text that is no claim's or no proof's is refused with its first bad line; a

@@ -158,9 +158,10 @@ fn read_whole(alloc: Global, bytes: &[u8]) -> Result<Proof, ProofFault>
 
 /// The proof that a text stands for.
 ///
-/// BadLine(n): line n, counted from 1, is the first that breaks a rule, lacks its line feed or is missing; the last line
-/// of a tree of format 2 does where no child is the same as another. TooManyNodes: the tree isn't whole after 1,000,000 nodes, which is tested before the next line is looked at.
-/// Trailing: more bytes follow the last line. NoMemory: memory was refused, and nothing is said of the text.
+/// BadLine(n): line n, counted from 1, is the first that breaks a rule, lacks its line feed or is missing; the last
+/// line of a tree of format 2 does where no child is the same as another. TooManyNodes: the tree isn't whole after
+/// 1,000,000 nodes, which is tested before the next line is looked at. Trailing: more bytes follow the last line.
+/// NoMemory: memory was refused, and nothing is said of the text.
 pub fn read_proof(alloc: Global, bytes: &[u8]) -> Result<Proof, ProofFault>
     // What is read keeps the rules, and the text is its text.
     ensures kept { IfOk result (λ p. IsProof p.claim (tree_of p.tree)) }

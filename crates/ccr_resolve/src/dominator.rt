@@ -32,8 +32,8 @@ fn are_covered(index: &Index, job: usize, pairs: &[(u32, u32)], others: &[(u32, 
     true
 }
 
-/// Of the pairs of build `build`, one in the scope of an input naming the job whose newest build is the oldest; None where no pair
-/// lies in such a scope. A pair that no newer build has is taken at once.
+/// Of the pairs of build `build`, one in the scope of an input naming the job whose newest build is the oldest; None
+/// where no pair lies in such a scope. A pair that no newer build has is taken at once.
 fn rarest_pair(index: &Index, job: usize, build: usize, pairs: &[(u32, u32)]) -> Option<(u32, u32)>
     requires job { job < length index.now.problem.jobs }
     requires build { build < length (builds_at index.now.problem job) }

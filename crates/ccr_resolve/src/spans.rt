@@ -47,7 +47,10 @@ pub(crate) struct Spans {
 
 impl Spans {
     /// How many places there are.
-    pub(crate) fn len(&self) -> usize {
+    pub(crate) fn len(&self) -> usize
+        ensures { result ≡ (self.now.first.to + 1 - self.now.first.from)
+            + (self.now.second.to + 1 - self.now.second.from) }
+    {
         self.first.len() + self.second.len()
     }
 }

@@ -1,5 +1,5 @@
-//! The builds that can still be part of a better choice. They are found by their pairs, so that the work doesn't grow with those that
-//! can't.
+//! The builds that can still be part of a better choice. They are found by their pairs, so that the work doesn't grow
+//! with those that can't.
 
 ghost use Rattle.std.specs.Prelude.{◌≡◌, ◌≢◌, ◌<◌, ◌≤◌, ℕ, List, length, slice_index, IfOk, IfSome, MatchOption, IsTrue, not, All, Contains, Option, Some};
 ghost use Rattle.ccr_choice.specs.Problem.{input_at, builds_at};
@@ -104,8 +104,8 @@ fn add_builds_in(
     Ok(false)
 }
 
-/// The positions of those builds of a job that have a place of an input no worse than the one found and no better than the best one,
-/// if they are at most `most` and at most half of the job's: else little is left out.
+/// The positions of those builds of a job that have a place of an input no worse than the one found and no better than
+/// the best one, if they are at most `most` and at most half of the job's: else little is left out.
 fn wanted_builds(
     alloc: Global,
     index: &Index,
@@ -138,8 +138,8 @@ fn wanted_builds(
     Ok(Some(builds))
 }
 
-/// A free job with at most `most` builds that can be part of a better choice. A better one has the places found before the first input whose
-/// best place is better, and there a place no worse than the one found.
+/// A free job with at most `most` builds that can be part of a better choice. A better one has the places found before
+/// the first input whose best place is better, and there a place no worse than the one found.
 fn best_split(
     alloc: Global,
     index: &Index,
@@ -192,8 +192,8 @@ pub(crate) fn fixed_pairs<'a>(
     None
 }
 
-/// A free job among those that input `input` names, and at most `most` of its builds, and at most half: those that have one of these
-/// pairs, of which the input's place is one.
+/// A free job among those that input `input` names, and at most `most` of its builds, and at most half: those that have
+/// one of these pairs, of which the input's place is one.
 fn split_by_pairs(
     alloc: Global,
     index: &Index,
@@ -308,8 +308,8 @@ fn all_below(alloc: Global, count: usize) -> Result<Vec<usize>, AllocError>
     Ok(all)
 }
 
-/// A free job and the builds of it to go into, each once: few that can be part of a better choice, or all of the job that costs the least. None
-/// where no job is free.
+/// A free job and the builds of it to go into, each once: few that can be part of a better choice, or all of the job
+/// that costs the least. None where no job is free.
 pub(crate) fn next_split(
     alloc: Global,
     index: &Index,

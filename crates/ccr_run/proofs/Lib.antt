@@ -8,6 +8,7 @@ pub mod Paging
 pub mod Refusing
 pub mod Serving
 pub mod Told
+pub mod TypesLooked
 pub mod Walks
 pub mod Searching
 pub mod Writing

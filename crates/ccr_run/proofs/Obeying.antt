@@ -19,10 +19,10 @@ use Rattle.ccr_run.specs.declared.run.Outcome.{Outcome}
 use Rattle.ccr_run.specs.Asked.{AskedData}
 use Rattle.ccr_run.specs.Aborting.{Asks, IsPrinted, abort_status, told_of}
 use Rattle.ccr_run.specs.Explained.{ToldData, IsToldOf, explained, nothing_told}
-use Rattle.ccr_run.specs.Found.{ValidationData, Validates, is_validation, refusal_in, validated_status, validation_in}
+use Rattle.ccr_run.specs.Found.{ValidationData, Validates, is_validation, validated_status, validation_in}
 use Rattle.ccr_run.specs.Left.{text_left}
 use Rattle.ccr_run.specs.Looked.{Looks, ShownOf}
-use Rattle.ccr_run.specs.Obeyed.{Ending, Obeyed}
+use Rattle.ccr_run.specs.Obeyed.{Ending, Obeyed, validation_told}
 use Rattle.ccr_run.specs.Orders.{IsOrdered, IsLookOrdered, IsPageOrdered, IsAbortOrdered, IsMisused}
 use Rattle.ccr_run.specs.Paged.{PagedOf, overview_options, page_told}
 use Rattle.ccr_run.specs.Served.{Coming, Served}
@@ -61,8 +61,8 @@ module _ {R F T C : Type 0} (r : runner.Ghosts R) (s : shelf.Ghosts F) (t : stor
 
   -- a build was asked to be aborted
   pub aborted : (order : AbortOrder) (tools : Tools R F) (status : ℕ) → IsAbortOrdered words order → asked ≡ [] → new_notes ≡ old_notes
-      → (end : Result Unit AbortFault) × Asks order (s.calls given.shelf) end (s.calls tools.shelf) × IsPrinted order end old new
-      × (told ≡ told_of end (not failed)) × (status ≡ printed_status (not failed) (abort_status end)) → tools.runner ≡ given.runner
+      → (end : Result Bool AbortFault) × Asks order (s.calls given.shelf) end (s.calls tools.shelf) × IsPrinted order end old new
+      × (told ≡ told_of order end (not failed)) × (status ≡ printed_status (not failed) (abort_status end)) → tools.runner ≡ given.runner
       → Obeyed r s t coming looks clock words given (ending asked old new old_notes new_notes failed told (Ok status)) (Unopened tools)
   aborted order tools status ordered unasked quiet it idle = inr (inl (record {
     order = order;
@@ -117,7 +117,7 @@ module _ {R F T C : Type 0} (r : runner.Ghosts R) (s : shelf.Ghosts F) (t : stor
   pub validated : (validation : ValidationData) (tools : Tools R F) (status : ℕ) → is_validation words ≡ true
       → validation_in words ≡ Some validation → asked ≡ [] → new_notes ≡ old_notes
       → (end : Result Bool ServeFault) × Validates validation end (s.calls given.shelf) (s.calls tools.shelf) old new
-      × (told ≡ record nothing_told { refusal = refusal_in end }) × (status ≡ validated_status end (not failed))
+      × (told ≡ validation_told validation.path end) × (status ≡ validated_status end (not failed))
       → tools.runner ≡ given.runner
       → Obeyed r s t coming looks clock words given (ending asked old new old_notes new_notes failed told (Ok status)) (Unopened tools)
   validated validation tools status named ordered unasked quiet it idle = inr (inr (inr (inr (inl (record {

@@ -18,6 +18,7 @@ use Rattle.ccr_findings.specs.declared.finding.Finding.{Finding}
 use Rattle.ccr_serve.specs.Commanding.{ArePipeline, IsRead}
 use Rattle.ccr_serve.specs.declared.fault.ServeFault.{ServeFault}
 use Rattle.ccr_serve.specs.declared.fault.ServeFault.TheVariants.{Read, File, NoMemory}
+use Rattle.ccr_run.specs.Hints.{HintData, about}
 use Rattle.ccr_run.specs.Refusals.{RefusalData, of_server}
 use Rattle.ccr_run.specs.Typed.{is_option}
 use Rattle.ccr_run.specs.declared.found.Validation.{Validation}
@@ -144,3 +145,8 @@ validated_status (Ok false) true = 1
 abbrev pub refusal_in : Result Bool ServeFault → Option RefusalData
 refusal_in (Ok good) = None
 refusal_in (Err fault) = Some (of_server fault)
+
+-- what to do about a validation of the file at a path: of one that can't be read, where to look
+abbrev pub hint_in : Text → Result Bool ServeFault → Option HintData
+hint_in path (Err File) = Some (about path (codes "is it there, is it a file of at most 1 MiB, and may you read it?"))
+hint_in path end = None

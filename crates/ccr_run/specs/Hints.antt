@@ -1,5 +1,5 @@
 -- What to do about how a command ended, where that helps.
-use Rattle.std.specs.Prelude.{ℕ, ◌++◌, Option, Some, None, option_map, Result, Ok, Err, codes, nat_eq, if◌then◌else◌}
+use Rattle.std.specs.Prelude.{ℕ, ◌++◌, length, Option, Some, None, option_map, Result, Ok, Err, codes, nat_eq, if◌then◌else◌}
 use Rattle.sqlite.specs.declared.error.Error.{Error}
 use Rattle.sqlite.specs.declared.error.Error.TheVariants.{SqliteFailure}
 use Rattle.sqlite.specs.declared.error.ErrorCode.TheVariants as sql
@@ -65,7 +65,7 @@ out_of_memory = codes "what was printed is kept; try again with more memory"
 
 -- about a fault of a pipeline's text
 abbrev pub of_text : ReadFault → Text
-of_text (NotJson path) = codes "YAML isn't read: examples/operating/pipeline-json FILE makes JSON of it; of JSON, ccr_run validate-pipeline FILE shows where the slip is"
+of_text (NotJson path) = codes "YAML isn't read: examples/operating/pipeline-json FILE makes JSON of it. JSON has no comments; ccr_run validate-pipeline FILE shows where the slip is"
 of_text (BadName path) = codes "a name has 1 to 128 bytes, no / and no control character, and isn't . or ..; ccr_run validate-pipeline FILE shows what stands there"
 of_text (BadAttempts path) = codes "attempts are from 1 to 100, and of steps that stand in one another at most 10000 together; ccr_run validate-pipeline FILE shows what stands there"
 of_text (NumberNotWhole path) = codes "a number here is whole: write another one as a text, as \"0.5\"; ccr_run validate-pipeline FILE says which it is"
@@ -76,7 +76,7 @@ abbrev pub of_server : Text → ServeFault → Option HintData
 of_server path (Core NoPipeline) = Some (about path unset)
 of_server path (Core NoJob) = Some (about path named_wrong)
 of_server path (Core NoResource) = Some (about path named_wrong)
-of_server path (Core NoBuild) = Some (bare (codes "builds shows which builds there are"))
+of_server path (Core NoBuild) = Some (about path (codes "it has no such build: builds shows those that it has; is --db right?"))
 of_server path (Core NoVersion) = Some (bare (codes "resource-versions NAME shows which places there are"))
 of_server path (Read fault) = Some (bare (of_text fault))
 of_server path BadPin = Some (bare (codes "a version is written as a JSON object of texts, as {\"ref\":\"61cbef\"}: resource-versions NAME shows them so"))
@@ -90,7 +90,7 @@ of_server path fault = None
 
 -- about there being no database to look at, at a path
 abbrev pub of_copy : Text → CopyFault → HintData
-of_copy path copy.NoFile = about path (codes "a look makes no database: is --db right? a command without --look makes one")
+of_copy path copy.NoFile = about path (codes "nothing is there: is --db right? set-pipeline makes a database, where the directory is there")
 of_copy path copy.OnlyLog = about path (codes "what was written last is in the file beside it that ends in -wal: bring back the file that belongs to it, or a copy")
 of_copy path copy.Empty = about path (codes "a command without --look makes a database of it; if a copy is being put there, look again when it is whole")
 of_copy path copy.NotAFile = about path (codes "--db names a file; what is beside it and ends in -wal or -journal is a file too")
@@ -121,11 +121,16 @@ of_open path (SqliteFailure sql.CannotOpen) =
     about path (codes "it can't be opened: is its directory there, is it a file, and may you read and write both?")
 of_open path error = about path (codes "it can't be read or written; is the disk in order?")
 
+-- about why a command wasn't done over the database at a path
+abbrev pub of_failure : Text → Failure → Option HintData
+of_failure path Locked = Some (about path (codes "another program has the database open: lsof FILE names it. Try again when it has ended (examples/operating/ccr waits for it); what only shows waits for nobody with --look, as builds --look"))
+of_failure path (Unopened error) = Some (of_open path error)
+of_failure path (Refused fault) = of_server path fault
+of_failure path (Unread fault) = Some (of_copy path fault)
+of_failure path (Unfound fault) = of_bytes path fault
+
 -- ABOUT HOW A COMMAND ENDED over the database at a path
 abbrev pub hint_of : Text → Result ℕ Failure → Option HintData
 hint_of path (Ok status) = option_map bare (of_status status)
-hint_of path (Err Locked) = Some (about path (codes "another program has the database open: lsof FILE names it. Try again when it has ended (examples/operating/ccr waits for it); what only shows waits for nobody with --look, as builds --look"))
-hint_of path (Err (Unopened error)) = Some (of_open path error)
-hint_of path (Err (Refused fault)) = of_server path fault
-hint_of path (Err (Unread fault)) = Some (of_copy path fault)
-hint_of path (Err (Unfound fault)) = of_bytes path fault
+hint_of path (Err failure) =
+    if nat_eq (length path) 0 then Some (bare (codes "--db names no file: is a variable empty?")) else of_failure path failure

@@ -58,7 +58,7 @@ silent_build printed noted = if printed.is_lost || noted.is_lost then None else 
 
 -- the line about it
 abbrev pub silent_line : Text → Text
-silent_line build = codes "hint: " ++ (build ++ codes ": no line says why it errored, as where a task has an input that no step before it gives. ccr_run --db FILE get-pipeline > p.json; ccr_run validate-pipeline p.json names it, if the task has no file")
+silent_line build = codes "hint: " ++ (build ++ codes ": no line says why it errored. A task may have an input that no step before it gives: of the pipeline's own tasks ccr_run validate-pipeline FILE names it; of a task's file, compare its inputs with the gets and outputs before it")
 
 -- its lines, if there is one
 abbrev pub silent_lines : Option Text → List Text
@@ -74,7 +74,7 @@ AreRead (Some bytes) None = ¬ (IsUtf8 bytes)
 -- ---- versions that nothing is known of
 -- about a trace that shows nothing
 abbrev pub untraced_line : Text
-untraced_line = codes "hint: no build took or moved a version that is written so: resource-versions NAME shows how they are written"
+untraced_line = codes "hint: no build has taken or moved this version: resource-versions NAME shows which there are, and how they are written"
 
 -- a trace was done, and nothing was printed
 abbrev pub is_untraced : List Text → Bool → HeardData → Bool
@@ -84,8 +84,22 @@ is_untraced words is_done printed = is_done && (not printed.is_used && has_word 
 abbrev pub untraced_lines : List Text → Bool → HeardData → List Text
 untraced_lines words is_done printed = if is_untraced words is_done printed then untraced_line ∷ [] else []
 
+-- ---- looks that show nothing
+-- about a look that shows nothing
+abbrev pub empty_line : Text
+empty_line = codes "hint: nothing of it is in the database: is --db right?"
+
+-- a look was done that is no trace, and nothing was printed
+abbrev pub is_empty_look : List Text → Bool → HeardData → Bool
+is_empty_look words is_done printed =
+    is_done && (not printed.is_used && (has_word (codes "--look") words && not (has_word (codes "trace") words)))
+
+-- the line about it
+abbrev pub empty_lines : List Text → Bool → HeardData → List Text
+empty_lines words is_done printed = if is_empty_look words is_done printed then empty_line ∷ [] else []
+
 -- WHAT IS TOLD LAST, by what was printed and what was told beside it
 abbrev pub TellsLast : List Text → Bool → HeardData → HeardData → WriterData → WriterData → Type 0
 TellsLast words is_done printed noted old new =
     (build : Option Text) × AreRead (silent_build printed.kept noted.kept) build
-    × GetsLines (silent_lines build ++ untraced_lines words is_done printed) old new
+    × GetsLines (silent_lines build ++ (untraced_lines words is_done printed ++ empty_lines words is_done printed)) old new

@@ -8,6 +8,7 @@ pub mod Found
 pub mod Heard
 pub mod Hints
 pub mod Kept
+pub mod Lacking
 pub mod Last
 pub mod Left
 pub mod Looked
@@ -21,4 +22,5 @@ pub mod Served
 pub mod Statuses
 pub mod Topics
 pub mod Typed
+pub mod Unmet
 pub mod Writers

@@ -29,7 +29,7 @@ is_named launch end named = (is_check launch && is_unstarted end) && not (is_kno
 
 -- the line about a program that did not start
 abbrev pub hint_line : Text → Text
-hint_line program = codes "hint: " ++ (program ++ codes " didn't start; is it there, and executable?")
+hint_line program = codes "hint: " ++ (program ++ codes " didn't start; is it there, and executable, and is the program of its first line (#!) there?")
 
 -- THE HINT about a launch that ended so: the line that names its program, where it is named, and else none
 abbrev pub hint_about : LaunchData → EndData → KeptData → List Text

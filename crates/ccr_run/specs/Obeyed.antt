@@ -19,7 +19,7 @@ use Rattle.ccr_run.specs.declared.run.Outcome.{Outcome}
 use Rattle.ccr_run.specs.Asked.{AskedData}
 use Rattle.ccr_run.specs.Aborting.{Asks, IsPrinted, abort_status, told_of}
 use Rattle.ccr_run.specs.Explained.{ToldData, IsToldOf, explained, nothing_told}
-use Rattle.ccr_run.specs.Found.{ValidationData, Validates, is_validation, refusal_in, validated_status, validation_in}
+use Rattle.ccr_run.specs.Found.{ValidationData, Validates, hint_in, is_validation, refusal_in, validated_status, validation_in}
 use Rattle.ccr_run.specs.Left.{text_left}
 use Rattle.ccr_run.specs.Looked.{Looks, ShownOf}
 use Rattle.ccr_run.specs.Orders.{IsOrdered, IsLookOrdered, IsPageOrdered, IsAbortOrdered, IsMisused}
@@ -43,6 +43,10 @@ pub record Ending : Type 0 where
   pub told : ToldData
   pub status : Result ℕ Misuse
 
+-- what is told of a validation of the file at a path: its refusal, and what to do
+abbrev pub validation_told : Text → Result Bool ServeFault → ToldData
+validation_told path end = record nothing_told { refusal = refusal_in end; hint = hint_in path end }
+
 module _ {R F T C : Type 0} (r : runner.Ghosts R) (s : shelf.Ghosts F) (t : storage.Ghosts T) (coming : Coming T C)
     (looks : Looks) (clock : Option Text) (words : List Text) (given : Tools R F) where
   -- the words order a command, and this came of it
@@ -55,12 +59,12 @@ module _ {R F T C : Type 0} (r : runner.Ghosts R) (s : shelf.Ghosts F) (t : stor
     pub told : IsToldOf order outcome (text_left kept) ending.told
     pub status_is : ending.status ≡ Ok (exit_status_of outcome)
 
-  -- the words ask for a build to be aborted: the shelf had the one call that asks for it, no program was started, nothing was asked of the
+  -- the words ask for a build to be aborted: the shelf had the two calls that look for it and ask for it, no program was started, nothing was asked of the
   -- database's files, and nothing was told beside the lines
   pub record IsAbort (ending : Ending) (kept : Left R F T C) : Type 0 where
     pub order : AbortOrder
     pub ordered : IsAbortOrdered words order
-    pub end : Result Unit AbortFault
+    pub end : Result Bool AbortFault
     pub tools : Tools R F
     pub left : kept ≡ Unopened tools
     pub idle : tools.runner ≡ given.runner
@@ -68,7 +72,7 @@ module _ {R F T C : Type 0} (r : runner.Ghosts R) (s : shelf.Ghosts F) (t : stor
     pub unasked : ending.asked ≡ []
     pub quiet : ending.new_notes ≡ ending.old_notes
     pub printed : IsPrinted order end ending.old ending.new
-    pub told : ending.told ≡ told_of end (not ending.failed)
+    pub told : ending.told ≡ told_of order end (not ending.failed)
     pub status_is : ending.status ≡ Ok (printed_status (not ending.failed) (abort_status end))
 
   -- the words order a look: no program was started, the shelf wasn't called, and nothing was told beside the lines
@@ -108,7 +112,7 @@ module _ {R F T C : Type 0} (r : runner.Ghosts R) (s : shelf.Ghosts F) (t : stor
     pub validates : Validates validation end (s.calls given.shelf) (s.calls tools.shelf) ending.old ending.new
     pub unasked : ending.asked ≡ []
     pub quiet : ending.new_notes ≡ ending.old_notes
-    pub told : ending.told ≡ record nothing_told { refusal = refusal_in end }
+    pub told : ending.told ≡ validation_told validation.path end
     pub status_is : ending.status ≡ Ok (validated_status end (not ending.failed))
 
   -- the words order nothing: nothing was done

@@ -2,14 +2,14 @@
 use Rattle.std.specs.Prelude.{ℕ, List, Bool, true, false, ◌||◌, Option, Some, None, codes, Result, Ok, Err, if◌then◌else◌}
 use Rattle.clap.specs.Values.{kind_of}
 use Rattle.clap.specs.declared.error.kind.ErrorKind.{ErrorKind}
-use Rattle.clap.specs.declared.error.kind.ErrorKind.TheVariants.{DisplayHelp, DisplayVersion, UnknownArgument, ValueValidation}
+use Rattle.clap.specs.declared.error.kind.ErrorKind.TheVariants.{DisplayHelp, DisplayVersion, InvalidSubcommand, UnknownArgument, ValueValidation}
 use Rattle.ccr_history.specs.Text.{Text}
 use Rattle.ccr_run.specs.declared.failure.Failure.{Failure}
 use Rattle.ccr_run.specs.declared.order.Misuse.{Misuse}
 use Rattle.ccr_run.specs.declared.order.Misuse.TheVariants.{Line, NoMemory}
 use Rattle.ccr_run.specs.declared.run.Outcome.{Outcome}
 use Rattle.ccr_run.specs.Refusals.{refusal_of}
-use Rattle.ccr_run.specs.Typed.{begins_with_option, has_word}
+use Rattle.ccr_run.specs.Typed.{has_word}
 
 -- the command's own status, or that of its refusal
 abbrev pub status_of : Result ℕ Failure → ℕ
@@ -25,11 +25,20 @@ printed_status false status = 4
 abbrev pub exit_status_of : Outcome → ℕ
 exit_status_of outcome = printed_status outcome.is_printed (status_of outcome.end)
 
--- about a word that isn't known: where a command stands first, the program's own options do that don't stand before it
-abbrev pub unknown_word : List Text → Text
-unknown_word words =
-    if begins_with_option words then codes "hint: ccr_run COMMAND --help has a command's own words and options; ccr_run --help has those that stand before it"
-    else codes "hint: --db and the other options of ccr_run stand before the command; ccr_run COMMAND --help has those behind it"
+-- about a word that isn't known
+abbrev pub unknown_word : Text
+unknown_word = codes "hint: names stand alone, without -j, -r or the like; --db, --types, --work, --launcher and --budget stand before the command; ccr_run COMMAND --help has what stands behind it"
+
+-- about a command that isn't known
+abbrev pub unknown_command : Text
+unknown_command = codes "hint: ccr_run --help has the commands; ccr (examples/operating) has more, as status, log and watch"
+
+-- about words that name no command, or `validate-pipeline` behind options
+abbrev pub no_command : List Text → Text
+no_command words =
+    if has_word (codes "validate-pipeline") words
+    then codes "error: validate-pipeline needs no database, so no option stands before it: ccr_run validate-pipeline FILE [--strict]"
+    else codes "error: no command\n\nFor more information, try '--help'."
 
 -- a command is named by which a version is named by its place
 abbrev pub names_place : List Text → Bool
@@ -47,7 +56,8 @@ wrong_value words =
 
 -- what to do about words that are no command line, by the kind of what is wrong with them
 abbrev pub remedy_of : List Text → ErrorKind → Option Text
-remedy_of words UnknownArgument = Some (unknown_word words)
+remedy_of words UnknownArgument = Some unknown_word
+remedy_of words InvalidSubcommand = Some unknown_command
 remedy_of words ValueValidation = wrong_value words
 remedy_of words kind = None
 

@@ -44,19 +44,11 @@ none_hint = codes "nothing is there that passed the jobs before it, and that no 
 
 -- what an allowed version is
 abbrev pub allowed_hint : Text
-allowed_hint = codes "an allowed version is one that no pin leaves out and nobody disabled: resource-versions NAME shows what there is, check-resource NAME looks for more"
+allowed_hint = codes "an allowed version meets each pin, and nobody disabled it; with passed beside it, none of these has passed. resource-versions NAME shows versions, resources the pins; check-resource NAME looks for more"
 
 -- about a demand that a version has passed a job
 abbrev pub passed_hint : Text
-passed_hint = codes "no build of the job behind passed has moved this yet: explain that job, too. Where jobs wait for each other, ccr_run --db FILE get-pipeline > p.json; ccr_run validate-pipeline p.json names them"
-
--- what an abort does
-abbrev pub abort_hint : Text
-abort_hint = codes "builds --job JOB --look shows whether it is there and runs; if it isn't there yet, it is aborted when it comes. rmdir WORK/JOB/abort-N takes this back"
-
--- what a pin does
-abbrev pub pin_hint : Text
-pin_hint = codes "jobs get no other version of it now, and none if no version has what the pin has: resource-versions NAME shows which there are, unpin-resource NAME takes it back"
+passed_hint = codes "no build of the job behind passed has succeeded with a version that is allowed here: explain that job, too. If two jobs wait for each other, ccr_run validate-pipeline FILE names them"
 
 -- what an output has to be
 abbrev pub reply_hint : Text
@@ -78,9 +70,17 @@ path_hint = codes "a task's file is named by its path in the build's directory, 
 abbrev pub task_hint : Text
 task_hint = codes "a task's file has what a task's config has, as {\"inputs\":[{\"name\":\"repo\"}],\"run\":{\"path\":\"make\",\"args\":[\"test\"]}}"
 
--- about a program that doesn't start
+-- about a get's or put's program that doesn't start
 abbrev pub start_hint : Text
-start_hint = codes "is it there, and executable, and is run.dir there? run.path is one program; its arguments belong into run.args"
+start_hint = codes "is it there, and executable, and is the program of its first line (#!) there?"
+
+-- about a task's program that doesn't start
+abbrev pub run_hint : Text
+run_hint = codes "is it there, and executable, is the program of its first line (#!), and is run.dir? run.path is one program; its arguments belong into run.args"
+
+-- about a build that is shown and errored
+abbrev pub why_hint : Text
+why_hint = codes "why it errored was said on standard error as it ended: ccr log JOB N shows that, where ccr keeps logs (examples/operating)"
 
 -- about a program that ends with a status
 abbrev pub status_hint : Text
@@ -99,8 +99,7 @@ topic_data t.CheckFolder = at_end (codes ": refused: folder fault") work_hint
 topic_data t.NoneSatisfies = record (at_end (codes ": none satisfies") none_hint) { unless = Some (codes "check ") }
 topic_data t.NoneAllowed = clash (codes " takes an allowed version") allowed_hint
 topic_data t.NonePassed = record (clash (codes " passed ") passed_hint) { but = Some (codes " takes an allowed version") }
-topic_data t.Pinned = on (codes "pinned ") pin_hint
-topic_data t.AbortAsked = on (codes "abort asked: ") abort_hint
+topic_data t.BuildErrored = at_end (codes " errored") why_hint
 topic_data t.StepNotJson = of_resource (at_end (codes ": not JSON") reply_hint)
 topic_data t.StepWrongKind = at_end (codes ": wrong kind") reply_hint
 topic_data t.StepNoVersion = at_end (codes ": missing version") reply_hint
@@ -108,16 +107,17 @@ topic_data t.StepNotText = at_end (codes ": version not text") text_hint
 topic_data t.FileNotJson = of_task (at_end (codes ": not JSON") file_hint)
 topic_data t.FileUnread = of_task (at_end (codes ": cannot read") path_hint)
 topic_data t.NoTask = of_task (on (codes " at task") task_hint)
-topic_data t.StepNotStarted = on (codes ": not started: ") start_hint
+topic_data t.StepNotStarted = of_resource (on (codes ": not started: ") start_hint)
+topic_data t.TaskNotStarted = of_task (on (codes ": not started: ") run_hint)
 topic_data t.StepStatus =
     record (of_task (on (codes ": exit status ") status_hint)) { but = Some (codes ": exit status 124" ++ 10 ∷ []) }
 topic_data t.StepFolder = at_end (codes ": folder fault") work_hint
 
--- THE WORDS WITH WHICH NOTHING IS TOLD of a topic: `explain` says more than hints do, but for those about its clash; what a pin
--- does is told by the command that sets one; and a launcher may show what a program prints
+-- THE WORDS WITH WHICH NOTHING IS TOLD of a topic: `explain` says more than hints do, but for those about its clash; why a build
+-- errored is told where one is shown; and a launcher may show what a program prints
 abbrev pub is_silent : Topic → List Text → Bool
 is_silent t.NoneAllowed words = not (has_word (codes "explain") words)
 is_silent t.NonePassed words = not (has_word (codes "explain") words)
-is_silent t.Pinned words = not (has_word (codes "pin-resource") words)
+is_silent t.BuildErrored words = not (has_word (codes "build") words)
 is_silent t.StepStatus words = has_option (codes "--launcher") words
 is_silent topic words = has_word (codes "explain") words

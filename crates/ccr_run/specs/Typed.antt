@@ -16,7 +16,3 @@ has_option option words = list_any (λ w. starts_with nat_eq w option) words
 -- a word is an option
 abbrev pub is_option : Text → Bool
 is_option word = option_map_or (λ first. first == 45) (slice_get word 0) false
-
--- the word behind the program's name is one, if there is one
-abbrev pub begins_with_option : List Text → Bool
-begins_with_option words = option_map_or is_option (slice_get words 1) false

@@ -23,8 +23,9 @@ pub fn searched(bytes: &[u8]) -> &[u8]
     }
 }
 
-/// Passes on to a writer all that it is given, and says on standard error what to do about certain words of it, behind the lines that
-/// one call gives, if these aren't too many. It says nothing of a write that may take a part of what it is given.
+/// Passes on to a writer all that it is given, and says on standard error what to do about certain words of it, behind
+/// the lines that one call gives, if these aren't too many. It says nothing of a write that may take a part of what it
+/// is given.
 #[derive(Drop)]
 pub struct Advising<W, E: Write> {
     writer: W,

@@ -37,8 +37,8 @@ pub struct Answered<R, F, T, C> {
     pub done: Done<R, F, T, C>,
 }
 
-/// The status that the program ends with: that of what was done, or 4 where not all lines went out. Or else it is told why the words order
-/// nothing, or the help is given that they ask for.
+/// The status that the program ends with: that of what was done, or 4 where not all lines went out. Or else it is told
+/// why the words order nothing, or the help is given that they ask for.
 fn code_of<P: Print + Eprint>(
     words: &[String],
     status: &Result<u8, Misuse>,
@@ -54,8 +54,8 @@ fn code_of<P: Print + Eprint>(
     }
 }
 
-/// Does what the words order with what it is given, and gives the status that the program ends with. It has no runtime: it reaches
-/// nothing but what it is given, and hands that back. What the clock says is given too, if it could be read.
+/// Does what the words order with what it is given, and gives the status that the program ends with. It has no runtime:
+/// it reaches nothing but what it is given, and hands that back. What the clock says is given too, if it could be read.
 pub fn answer<
     'a,
     R: Runner + Drop,

@@ -1,12 +1,15 @@
 //! What is found in a pipeline's file: told beside `set-pipeline`, and by `validate-pipeline`, which opens no database.
 ghost use Rattle.std.specs.Prelude.{◌≡◌, ◌++◌, [], None, Some, Ok, Err, map, option_map, option_copied, string_bytes, IfOk, IfErr, OnOk, OnErr};
 ghost use Rattle.ccr_findings.specs.Findings.{findings_data};
-ghost use Rattle.ccr_run.specs.Explained.{told_data, has_set, has_shown, AreGates, gate_lines, refusal_lines};
+ghost use Rattle.ccr_run.specs.Explained.{told_data, nothing_told, has_set, has_shown, AreGates, TellsLines, gate_lines, refusal_lines};
+ghost use Rattle.ccr_run.specs.Hints.{hint_data};
+ghost use Rattle.ccr_run.specs.Obeyed.{validation_told};
 ghost use Rattle.ccr_run.specs.Found.{Finds, IsRefusedText, PrintsRefused, Validates, ValidatesText, findings_text, line_text, lines_text, validation_data, wrong_text};
 ghost use Rattle.ccr_run.specs.Found as spec;
 ghost use Rattle.ccr_run.specs.Writers.{GetsLines};
 
 use crate::failure::Failure;
+use crate::hint::Hint;
 use crate::order::Order;
 use crate::refusal::refusal_of;
 use crate::telling::Telling;
@@ -68,8 +71,8 @@ fn has_shown(command: &Command, end: &Result<u8, Failure>) -> bool
     }
 }
 
-/// Says on standard error what is found in this text of a pipeline, where what is ordered has set one; or that no pipeline is set, where
-/// there is no text, and something was shown.
+/// Says on standard error what is found in this text of a pipeline, where what is ordered has set one; or that no
+/// pipeline is set, where there is no text, and something was shown.
 pub fn tell_gates<'e, E: Write>(
     alloc: Global,
     telling: &mut Telling<'e, E>,
@@ -263,8 +266,9 @@ fn validate_text<O: Lines>(
     }
 }
 
-/// Prints what is found in a pipeline's file. Whether nothing of it is a reason to refuse the pipeline: nothing in it doesn't do what it
-/// seems to say, and where the validation is strict, nothing but gates is found. All faults of a text that is refused are printed.
+/// Prints what is found in a pipeline's file. Whether nothing of it is a reason to refuse the pipeline: nothing in it
+/// doesn't do what it seems to say, and where the validation is strict, nothing but gates is found. All faults of a
+/// text that is refused are printed.
 ///
 /// `Read` where the text is refused, `File` where the file can't be read, and `NoMemory`.
 pub fn validate<F: Shelf, O: Lines>(
@@ -286,9 +290,22 @@ pub fn validate<F: Shelf, O: Lines>(
     }
 }
 
-/// Tells why a pipeline's file was refused, and gives the status: 0, 1 where something is a reason to refuse the pipeline, and 4
-/// where not all lines went out; or that of the refusal.
-pub fn tell_validation<E: Write>(
+/// What to do about a validation of the file at a path, where that helps: its lines say the rest.
+fn hint_in<'a>(path: &'a str, end: &Result<bool, ServeFault>) -> Option<Hint<'a>>
+    ensures { option_map hint_data result ≡ spec.hint_in path.now end.now }
+{
+    match end {
+        Err(ServeFault::File) => Some(Hint {
+            path: Some(path),
+            words: "is it there, is it a file of at most 1 MiB, and may you read it?",
+        }),
+        _ => None,
+    }
+}
+
+/// Tells why a pipeline's file was refused, and gives the status: 0, 1 where something is a reason to refuse the pipeline,
+/// and 4 where not all lines went out; or that of the refusal.
+fn tell_end<E: Write>(
     telling: &mut Telling<'_, E>,
     end: Result<bool, ServeFault>,
     is_printed: bool,
@@ -308,4 +325,25 @@ pub fn tell_validation<E: Write>(
             refusal.status
         }
     }
+}
+
+/// Tells why the pipeline's file at a path was refused, and what to do where it can't be read. It gives the status: 0, 1 where
+/// something is a reason to refuse the pipeline, and 4 where not all lines went out; or that of the refusal.
+pub fn tell_validation<'e, E: Write>(
+    telling: &mut Telling<'e, E>,
+    path: &'e str,
+    end: Result<bool, ServeFault>,
+    is_printed: bool,
+) -> u8
+    requires { told_data telling.old ≡ nothing_told }
+    ensures status { result ≡ spec.validated_status end is_printed }
+    ensures told { told_data telling.new ≡ validation_told path.now end }
+    ensures wrote { TellsLines (validation_told path.now end) telling.old.errors telling.new.errors }
+{
+    let hint = hint_in(path, &end);
+    let status = tell_end(telling, end, is_printed);
+    if let Some(hint) = hint {
+        telling.hint(hint);
+    }
+    status
 }

@@ -76,16 +76,20 @@ fn of_text(fault: &ReadFault) -> &'static str
 {
     match fault {
         ReadFault::NotJson(_) => {
-            "YAML isn't read: examples/operating/pipeline-json FILE makes JSON of it; of JSON, ccr_run validate-pipeline FILE shows where the slip is"
+            "YAML isn't read: examples/operating/pipeline-json FILE makes JSON of it. JSON has no comments; ccr_run \
+             validate-pipeline FILE shows where the slip is"
         }
         ReadFault::BadName(_) => {
-            "a name has 1 to 128 bytes, no / and no control character, and isn't . or ..; ccr_run validate-pipeline FILE shows what stands there"
+            "a name has 1 to 128 bytes, no / and no control character, and isn't . or ..; ccr_run validate-pipeline \
+             FILE shows what stands there"
         }
         ReadFault::BadAttempts(_) => {
-            "attempts are from 1 to 100, and of steps that stand in one another at most 10000 together; ccr_run validate-pipeline FILE shows what stands there"
+            "attempts are from 1 to 100, and of steps that stand in one another at most 10000 together; ccr_run \
+             validate-pipeline FILE shows what stands there"
         }
         ReadFault::NumberNotWhole(_) => {
-            "a number here is whole: write another one as a text, as \"0.5\"; ccr_run validate-pipeline FILE says which it is"
+            "a number here is whole: write another one as a text, as \"0.5\"; ccr_run validate-pipeline FILE says \
+             which it is"
         }
         _ => {
             "ccr_run validate-pipeline FILE says what stands there and what is wanted; docs/FORMATS.md has the format"
@@ -101,15 +105,20 @@ fn of_server<'a>(path: &'a str, fault: &ServeFault) -> Option<Hint<'a>>
         ServeFault::Core(CoreFault::NoPipeline) => unset_in(path),
         ServeFault::Core(CoreFault::NoJob | CoreFault::NoResource) => about(
             path,
-            "the pipeline that is set in it, if one is, has no such name: jobs and resources show those that it has; is --db right?",
+            "the pipeline that is set in it, if one is, has no such name: jobs and resources show those that it has; \
+             is --db right?",
         ),
-        ServeFault::Core(CoreFault::NoBuild) => bare("builds shows which builds there are"),
+        ServeFault::Core(CoreFault::NoBuild) => about(
+            path,
+            "it has no such build: builds shows those that it has; is --db right?",
+        ),
         ServeFault::Core(CoreFault::NoVersion) => bare(
             "resource-versions NAME shows which places there are",
         ),
         ServeFault::Read(fault) => bare(of_text(fault)),
         ServeFault::BadPin => bare(
-            "a version is written as a JSON object of texts, as {\"ref\":\"61cbef\"}: resource-versions NAME shows them so",
+            "a version is written as a JSON object of texts, as {\"ref\":\"61cbef\"}: resource-versions NAME shows \
+             them so",
         ),
         ServeFault::Store(StoreFault::NotOurs) => bare(NOT_OURS),
         ServeFault::Store(StoreFault::Disk) => bare(
@@ -131,10 +140,11 @@ fn of_copy<'a>(path: &'a str, fault: CopyFault) -> Hint<'a>
 {
     let words = match fault {
         CopyFault::NoFile => {
-            "a look makes no database: is --db right? a command without --look makes one"
+            "nothing is there: is --db right? set-pipeline makes a database, where the directory is there"
         }
         CopyFault::OnlyLog => {
-            "what was written last is in the file beside it that ends in -wal: bring back the file that belongs to it, or a copy"
+            "what was written last is in the file beside it that ends in -wal: bring back the file that belongs to \
+             it, or a copy"
         }
         CopyFault::Empty => {
             "a command without --look makes a database of it; if a copy is being put there, look again when it is whole"
@@ -143,7 +153,8 @@ fn of_copy<'a>(path: &'a str, fault: CopyFault) -> Hint<'a>
             "--db names a file; what is beside it and ends in -wal or -journal is a file too"
         }
         CopyFault::Journal => {
-            "another program was writing the database and has not ended it: open it once with sqlite3, which takes that back"
+            "another program was writing the database and has not ended it: open it once with sqlite3, which takes \
+             that back"
         }
         CopyFault::Restless => "it changed at each of 100 tries; look again",
         CopyFault::Unread => {
@@ -161,7 +172,8 @@ fn of_bytes<'a>(path: &'a str, fault: StoreFault) -> Option<Hint<'a>>
     match fault {
         StoreFault::Disk => Some(about(
             path,
-            "it is no database, which begins with SQLite format 3 (head -c 15 FILE), or it is damaged, or its file that ends in -wal isn't beside it: name another one, or bring back a copy with both",
+            "it is no database, which begins with SQLite format 3 (head -c 15 FILE), or it is damaged, or its file \
+             that ends in -wal isn't beside it: name another one, or bring back a copy with both",
         )),
         StoreFault::NotOurs => Some(about(path, NOT_OURS)),
         StoreFault::NoMemory => Some(bare(NO_MEMORY)),
@@ -207,19 +219,30 @@ fn of_open<'a>(path: &'a str, error: &Error) -> Hint<'a>
     }
 }
 
+/// What to do about why a command wasn't done over the database at a path, where that helps.
+fn of_failure<'a>(path: &'a str, failure: &Failure) -> Option<Hint<'a>>
+    ensures { option_map hint_data result ≡ spec.of_failure path.now failure.now }
+{
+    match failure {
+        Failure::Locked => Some(about(
+            path,
+            "another program has the database open: lsof FILE names it. Try again when it has ended \
+             (examples/operating/ccr waits for it); what only shows waits for nobody with --look, as builds --look",
+        )),
+        Failure::Unopened(error) => Some(of_open(path, error)),
+        Failure::Refused(fault) => of_server(path, fault),
+        Failure::Unread(fault) => Some(of_copy(path, *fault)),
+        Failure::Unfound(fault) => of_bytes(path, *fault),
+    }
+}
+
 /// What to do about how a command ended over the database at a path, where that helps.
 pub fn hint_of<'a>(path: &'a str, end: &Result<u8, Failure>) -> Option<Hint<'a>>
     ensures { option_map hint_data result ≡ spec.hint_of path.now end.now }
 {
     match end {
         Ok(status) => of_status(*status),
-        Err(Failure::Locked) => Some(about(
-            path,
-            "another program has the database open: lsof FILE names it. Try again when it has ended (examples/operating/ccr waits for it); what only shows waits for nobody with --look, as builds --look",
-        )),
-        Err(Failure::Unopened(error)) => Some(of_open(path, error)),
-        Err(Failure::Refused(fault)) => of_server(path, fault),
-        Err(Failure::Unread(fault)) => Some(of_copy(path, *fault)),
-        Err(Failure::Unfound(fault)) => of_bytes(path, *fault),
+        Err(_) if path.len() == 0 => Some(bare("--db names no file: is a variable empty?")),
+        Err(failure) => of_failure(path, failure),
     }
 }

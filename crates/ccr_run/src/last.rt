@@ -1,7 +1,7 @@
 //! What is told last, of all that was printed and told.
 ghost use Rattle.std.specs.Prelude.{◌≡◌, map, option_map, string_bytes};
 ghost use Rattle.ccr_run.specs.Heard.{heard_data};
-ghost use Rattle.ccr_run.specs.Last.{AreRead, TellsLast, silent_lines, untraced_lines};
+ghost use Rattle.ccr_run.specs.Last.{AreRead, TellsLast, empty_lines, silent_lines, untraced_lines};
 ghost use Rattle.ccr_run.specs.Last as spec;
 ghost use Rattle.ccr_run.specs.Writers.{GetsLines};
 
@@ -101,7 +101,9 @@ fn tell_silent<E: Write>(errors: &mut Errors<E>, build: Option<&str>)
 {
     if let Some(build) = build {
         errors.say(format_args!(
-            "hint: {build}: no line says why it errored, as where a task has an input that no step before it gives. ccr_run --db FILE get-pipeline > p.json; ccr_run validate-pipeline p.json names it, if the task has no file"
+            "hint: {build}: no line says why it errored. A task may have an input that no step before it gives: of \
+             the pipeline's own tasks ccr_run validate-pipeline FILE names it; of a task's file, compare its inputs \
+             with the gets and outputs before it"
         ));
     }
 }
@@ -113,13 +115,25 @@ fn tell_untraced<E: Write>(errors: &mut Errors<E>, words: &[String], is_done: bo
 {
     if is_done && !printed.is_used && has_word(words, "trace") {
         errors.say(
-            "hint: no build took or moved a version that is written so: resource-versions NAME shows how they are written",
+            "hint: no build has taken or moved this version: resource-versions NAME shows which there are, and how \
+             they are written",
         );
     }
 }
 
+/// Says what to do about a look that shows nothing, if it is no trace.
+fn tell_empty<E: Write>(errors: &mut Errors<E>, words: &[String], is_done: bool, printed: &Heard)
+    ensures { GetsLines (empty_lines (map string_bytes words.now) is_done (heard_data printed.now))
+        errors.old errors.new }
+{
+    let is_look = has_word(words, "--look") && !has_word(words, "trace");
+    if is_done && !printed.is_used && is_look {
+        errors.say("hint: nothing of it is in the database: is --db right?");
+    }
+}
+
 /// Says last what to do, by what was printed, and what was told beside it: about a build that errored and of which no line
-/// says why, and about a trace that was done and shows nothing.
+/// says why, and about a trace or a look that was done and shows nothing.
 pub fn tell_last<E: Write>(
     errors: &mut Errors<E>,
     printed: &Heard,
@@ -133,4 +147,5 @@ pub fn tell_last<E: Write>(
     let build = read(silent_build(&printed.kept, &noted.kept));
     tell_silent(errors, build);
     tell_untraced(errors, words, is_done, printed);
+    tell_empty(errors, words, is_done, printed);
 }

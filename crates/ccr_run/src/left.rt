@@ -1,5 +1,6 @@
 //! What a run works with, and what it leaves of that.
 
+use ccr_core::Core;
 use ccr_serve::Server;
 
 /// What a server works with.
@@ -27,7 +28,7 @@ pub enum Left<R, F, T, C> {
 impl<R, F, T, C> Left<R, F, T, C> {
     ghost use Rattle.std.specs.Prelude.{◌≡◌};
     ghost use Rattle.std.specs.Option.{option_copied};
-    ghost use Rattle.ccr_run.specs.Left.{text_left};
+    ghost use Rattle.ccr_run.specs.Left.{core_left, text_left};
 
     /// The text of the pipeline of the server, if one did the command and has a pipeline.
     pub fn text(&self) -> Option<&[u8]>
@@ -35,6 +36,16 @@ impl<R, F, T, C> Left<R, F, T, C> {
     {
         match self {
             Left::Served(server) => server.text(),
+            Left::Unbegun(_, _) | Left::Unfound(_, _) | Left::Unopened(_) => None,
+        }
+    }
+
+    /// The core of the server, if one did the command.
+    pub fn core(&self) -> Option<&Core>
+        ensures { option_copied result ≡ core_left self.now }
+    {
+        match self {
+            Left::Served(server) => Some(server.core()),
             Left::Unbegun(_, _) | Left::Unfound(_, _) | Left::Unopened(_) => None,
         }
     }

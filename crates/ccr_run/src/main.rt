@@ -22,6 +22,7 @@ mod found;
 mod heard;
 mod hint;
 mod kept;
+mod lacking;
 mod last;
 mod left;
 mod look;
@@ -37,6 +38,7 @@ mod tell;
 mod telling;
 mod topic;
 mod typed;
+mod unmet;
 
 use advising::Advising;
 use answer::{Answered, answer};
@@ -46,12 +48,13 @@ use ccr_task::Folders;
 use clock::time_now;
 use errors::Errors;
 use heard::{Heard, Hearing};
+use lacking::tell_lacking;
 use last::tell_last;
-use left::Tools;
+use left::{Left, Tools};
 use naming::Naming;
 use opener::Opener;
 use opening::HostFiles;
-use order::Misuse;
+use order::{Misuse, Ordered, ordered_by};
 use sqlite::Unknown;
 use std::io::{ErrorKind, Write};
 use std::process::ExitCode;
@@ -59,6 +62,7 @@ use std::{env, io};
 use tell::tell_misuse;
 use telling::Telling;
 use topic::Topic;
+use unmet::tell_unmet;
 
 /// The fault of words that can't be read: one of them is no text, or memory was refused.
 fn misuse_of(error: &io::Error) -> Misuse {
@@ -77,8 +81,9 @@ fn words(rt: &HostRuntime) -> Result<Vec<String>, Misuse> {
     }
 }
 
-/// Answers the words with the programs, the directories and the files of this machine, as they are: nothing is known of them. Lines go to
-/// one writer, and what is told of steps to another one. Whether it ended with status 0 is handed on, too.
+/// Answers the words with the programs, the directories and the files of this machine, as they are: nothing is known of
+/// them. Lines go to one writer, and what is told of steps to another one. What it has set may have a hint. Whether it
+/// ended with status 0 is handed on, too.
 fn answer_by<W: Write + Drop, E: Write + Drop>(
     rt: &HostRuntime,
     words: &[String],
@@ -105,6 +110,9 @@ fn answer_by<W: Write + Drop, E: Write + Drop>(
         rt,
     );
     let is_done = matches!(&done.status, Ok(0));
+    if is_done && !is_silent(rt) {
+        tell_set(rt, words, &done.left);
+    }
     (code, is_done)
 }
 
@@ -113,6 +121,33 @@ fn is_silent(rt: &HostRuntime) -> bool {
     match env::var(rt, "CCR_HINTS") {
         Ok(word) => word.as_str() == "no",
         Err(_) => false,
+    }
+}
+
+/// Says what to do about what a command has set, by the server that it leaves: about a pin that no version meets, and
+/// about the types of a pipeline whose directory isn't there.
+fn tell_set<R, F, T, C>(rt: &HostRuntime, words: &[String], left: &Left<R, F, T, C>) {
+    let alloc = rt.alloc();
+    let Some(core) = left.core() else {
+        return;
+    };
+    let Ok(Ordered::Command(order)) = ordered_by(alloc, words) else {
+        return;
+    };
+    let options = order.options;
+    let mut errors = Errors::new(alloc, rt.stderr());
+    tell_unmet(&mut errors, &order.command, core);
+    // A launcher may have the programs where this machine has none.
+    if options.launcher.is_none() {
+        let mut shelf = Folders::new(rt, alloc);
+        let _ = tell_lacking(
+            alloc,
+            &mut errors,
+            &mut shelf,
+            options.types,
+            &order.command,
+            core,
+        );
     }
 }
 
@@ -157,8 +192,7 @@ fn answer_here(rt: &HostRuntime, words: &[String]) -> ExitCode {
     let out = advise(rt, words, out, rt.stderr(), Topic::NoneSatisfies);
     let out = advise(rt, words, out, rt.stderr(), Topic::NoneAllowed);
     let out = advise(rt, words, out, rt.stderr(), Topic::NonePassed);
-    let out = advise(rt, words, out, rt.stderr(), Topic::Pinned);
-    let out = advise(rt, words, out, rt.stderr(), Topic::AbortAsked);
+    let out = advise(rt, words, out, rt.stderr(), Topic::BuildErrored);
     let told = rt.stderr();
     let told = advise(rt, words, told, rt.stderr(), Topic::StepNotJson);
     let told = advise(rt, words, told, rt.stderr(), Topic::StepWrongKind);
@@ -168,6 +202,7 @@ fn answer_here(rt: &HostRuntime, words: &[String]) -> ExitCode {
     let told = advise(rt, words, told, rt.stderr(), Topic::FileUnread);
     let told = advise(rt, words, told, rt.stderr(), Topic::NoTask);
     let told = advise(rt, words, told, rt.stderr(), Topic::StepNotStarted);
+    let told = advise(rt, words, told, rt.stderr(), Topic::TaskNotStarted);
     let told = advise(rt, words, told, rt.stderr(), Topic::StepStatus);
     let told = advise(rt, words, told, rt.stderr(), Topic::StepFolder);
     answer_heard(rt, words, out, told)

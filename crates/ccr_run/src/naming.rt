@@ -79,7 +79,10 @@ impl<R, E: Write> Naming<R, E> {
         ensures kept { Keeps program.now self.old.named self.new.named }
         ensures runner { self.new.runner ≡ self.old.runner }
     {
-        self.errors.say(format_args!("hint: {program} didn't start; is it there, and executable?"));
+        self.errors.say(format_args!(
+            "hint: {program} didn't start; is it there, and executable, and is the program of its first line (#!) \
+             there?"
+        ));
         self.named.keep(program.as_bytes());
     }
 }

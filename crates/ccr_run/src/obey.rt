@@ -7,10 +7,10 @@ ghost use Rattle.ccr_serve.specs.declared.fault.ServeFault.{ServeFault as ServeF
 ghost use Rattle.ccr_run.specs.Aborting.{Asks, IsPrinted, abort_status, told_of};
 ghost use Rattle.ccr_run.specs.Databases.{from_files};
 ghost use Rattle.ccr_run.specs.Explained.{IsToldOf, TellsLines, nothing_told, told_data};
-ghost use Rattle.ccr_run.specs.Found.{Validates, refusal_in, validated_status, validation_data};
+ghost use Rattle.ccr_run.specs.Found.{Validates, validated_status, validation_data};
 ghost use Rattle.ccr_run.specs.Left.{text_left};
 ghost use Rattle.ccr_run.specs.Looked.{LookedBeside};
-ghost use Rattle.ccr_run.specs.Obeyed.{Obeyed};
+ghost use Rattle.ccr_run.specs.Obeyed.{Obeyed, validation_told};
 ghost use Rattle.ccr_run.specs.Served.{Served};
 ghost use Rattle.ccr_run.specs.Statuses.{exit_status_of, printed_status};
 ghost use Rattle.ccr_run.specs.declared.abort.AbortFault.{AbortFault as AbortFaultData};
@@ -74,7 +74,8 @@ fn do_command<
     requires untold { told_data telling.old ≡ nothing_told }
     ensures did { (outcome : OutcomeData) × Served R.Runner F.Shelf ⟦<FileDatabase<S> as Storage>⟧
         (from_files (image_at S.Start) (λ is_log file. IsFresh is_log file) opener.new.answer) order.now
-        (O.asked opener.new.files) tools outcome.end result.1 (out.old.shown ++ out.old.waiting) (out.new.shown ++ out.new.waiting)
+        (O.asked opener.new.files) tools outcome.end result.1
+        (out.old.shown ++ out.old.waiting) (out.new.shown ++ out.new.waiting)
         × (outcome.is_printed ≡ not out.new.failed)
         × IsToldOf order.now outcome (text_left result.1) (told_data telling.new)
         × (result.0 ≡ exit_status_of outcome) }
@@ -88,17 +89,17 @@ fn do_command<
 }
 
 /// Asks for a build to be aborted, and tells what came of it: the status, and what was given.
-fn do_abort<R, F: Shelf, W: Write, E: Write, P: Write>(
+fn do_abort<'a, R, F: Shelf, W: Write, E: Write, P: Write>(
     alloc: Global,
-    order: &AbortOrder<'_>,
+    order: &AbortOrder<'a>,
     tools: Tools<R, F>,
     out: &mut Printed<W, E>,
-    telling: &mut Telling<'_, P>,
+    telling: &mut Telling<'a, P>,
 ) -> (u8, Tools<R, F>)
     requires { told_data telling.old ≡ nothing_told }
-    ensures asks { (end : Result Unit AbortFaultData) × Asks order.now (F.calls tools.shelf) end (F.calls result.1.shelf)
+    ensures asks { (end : Result Bool AbortFaultData) × Asks order.now (F.calls tools.shelf) end (F.calls result.1.shelf)
         × IsPrinted order.now end (out.old.shown ++ out.old.waiting) (out.new.shown ++ out.new.waiting)
-        × (told_data telling.new ≡ told_of end (not out.new.failed))
+        × (told_data telling.new ≡ told_of order.now end (not out.new.failed))
         × (result.0 ≡ printed_status (not out.new.failed) (abort_status end)) }
     ensures whole { out.old.waiting ≡ [] → out.new.waiting ≡ [] }
     ensures quiet { out.new.notes ≡ out.old.notes }
@@ -108,23 +109,23 @@ fn do_abort<R, F: Shelf, W: Write, E: Write, P: Write>(
     let Tools { runner, mut shelf } = tools;
     let end = abort_build(alloc, &mut shelf, order, out);
     let is_printed = !out.has_failed();
-    let status = tell_abort(telling, &end, is_printed);
+    let status = tell_abort(telling, order, &end, is_printed);
     (status, Tools { runner, shelf })
 }
 
 /// Validates a pipeline's file, and tells what came of it: the status, and what was given.
-fn do_validation<R, F: Shelf, W: Write, E: Write, P: Write>(
+fn do_validation<'a, R, F: Shelf, W: Write, E: Write, P: Write>(
     alloc: Global,
-    validation: &Validation<'_>,
+    validation: &Validation<'a>,
     tools: Tools<R, F>,
     out: &mut Printed<W, E>,
-    telling: &mut Telling<'_, P>,
+    telling: &mut Telling<'a, P>,
 ) -> (u8, Tools<R, F>)
     requires { told_data telling.old ≡ nothing_told }
     ensures validates { (end : Result Bool ServeFaultData)
         × Validates (validation_data validation.now) end (F.calls tools.shelf) (F.calls result.1.shelf)
         (out.old.shown ++ out.old.waiting) (out.new.shown ++ out.new.waiting)
-        × (told_data telling.new ≡ record nothing_told { refusal = refusal_in end })
+        × (told_data telling.new ≡ validation_told validation.now.path.now end)
         × (result.0 ≡ validated_status end (not out.new.failed)) }
     ensures whole { out.old.waiting ≡ [] → out.new.waiting ≡ [] }
     ensures quiet { out.new.notes ≡ out.old.notes }
@@ -134,7 +135,7 @@ fn do_validation<R, F: Shelf, W: Write, E: Write, P: Write>(
     let Tools { runner, mut shelf } = tools;
     let end = validate(alloc, &mut shelf, validation, out);
     let is_printed = !out.has_failed();
-    let status = tell_validation(telling, end, is_printed);
+    let status = tell_validation(telling, validation.path, end, is_printed);
     (status, Tools { runner, shelf })
 }
 

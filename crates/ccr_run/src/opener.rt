@@ -29,7 +29,8 @@ pub enum Answer<C, L> {
     Refused(Error, Option<L>),
 }
 
-/// Opens the database, once, or reads it, by files that open. `S` says what they hold: a function over any `S` is proved for all files.
+/// Opens the database, once, or reads it, by files that open. `S` says what they hold: a function over any `S` is
+/// proved for all files.
 #[derive(Drop)]
 pub struct Opener<O, S, C, L> {
     files: O,

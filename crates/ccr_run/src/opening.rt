@@ -25,8 +25,9 @@ pub type FilesLeftOver<S> = Leftover<FileFrom<S>>;
 pub trait Opens {
     ghost asked: { Self → List AskedData };
 
-    /// A connection to the database in the file at this path, as it is made: no statement was run over it, and none is limited. The file is
-    /// made where there is none, and no other program can open it until this one ends. `start` says what is supposed of the files.
+    /// A connection to the database in the file at this path, as it is made: no statement was run over it, and none is
+    /// limited. The file is made where there is none, and no other program can open it until this one ends. `start`
+    /// says what is supposed of the files.
     ///
     /// An error comes with what is left of the files, once they were opened.
     fn open<S: Start>(

@@ -234,7 +234,8 @@ pub fn run<R: Runner + Drop, F: Shelf + Drop, O: Opens, S: Start, W: Write, E: W
     requires unasked { O.asked opener.old.files ≡ [] }
     ensures served { Served R.Runner F.Shelf ⟦<FileDatabase<S> as Storage>⟧
         (from_files (image_at S.Start) (λ is_log file. IsFresh is_log file) opener.new.answer) order.now
-        (O.asked opener.new.files) tools result.outcome.end result.left (out.old.shown ++ out.old.waiting) (out.new.shown ++ out.new.waiting) }
+        (O.asked opener.new.files) tools result.outcome.end result.left
+        (out.old.shown ++ out.old.waiting) (out.new.shown ++ out.new.waiting) }
     ensures printed { result.outcome.is_printed ≡ not out.new.failed }
     ensures whole { out.old.waiting ≡ [] → out.new.failed ≡ false → out.new.waiting ≡ [] }
 {

@@ -15,7 +15,7 @@ use crate::order::{Misuse, Order};
 use crate::refusal::refusal_of;
 use crate::run::Outcome;
 use crate::telling::Telling;
-use crate::typed::{begins_with_option, has_word};
+use crate::typed::has_word;
 use ccr_core::{Command, Shown};
 use clap::Error as LineError;
 use clap::error::ErrorKind;
@@ -120,15 +120,13 @@ pub fn tell<'e, E: Write>(telling: &mut Telling<'e, E>, order: &Order<'e>, outco
 }
 
 /// About a word that isn't known.
-fn unknown_word(words: &[String]) -> &'static str
-    ensures { result.now ≡ spec.unknown_word (map string_bytes words.now) }
-{
-    if begins_with_option(words) {
-        "hint: ccr_run COMMAND --help has a command's own words and options; ccr_run --help has those that stand before it"
-    } else {
-        "hint: --db and the other options of ccr_run stand before the command; ccr_run COMMAND --help has those behind it"
-    }
-}
+const UNKNOWN_WORD: &str =
+    "hint: names stand alone, without -j, -r or the like; --db, --types, --work, --launcher and --budget stand \
+     before the command; ccr_run COMMAND --help has what stands behind it";
+
+/// About a command that isn't known.
+const UNKNOWN_COMMAND: &str =
+    "hint: ccr_run --help has the commands; ccr (examples/operating) has more, as status, log and watch";
 
 /// Whether a command is named by which a version is named by its place.
 fn names_place(words: &[String]) -> bool
@@ -164,7 +162,8 @@ fn remedy_of(words: &[String], kind: ErrorKind) -> Option<&'static str>
     ensures { option_map (λ hint. hint.now) result ≡ spec.remedy_of (map string_bytes words.now) kind }
 {
     match kind {
-        ErrorKind::UnknownArgument => Some(unknown_word(words)),
+        ErrorKind::UnknownArgument => Some(UNKNOWN_WORD),
+        ErrorKind::InvalidSubcommand => Some(UNKNOWN_COMMAND),
         ErrorKind::ValueValidation => wrong_value(words),
         _ => None,
     }
@@ -179,6 +178,18 @@ fn print_line<R: Print + Eprint>(rt: &R, words: &[String], error: &LineError) ->
     }
 }
 
+/// About words that name no command, or `validate-pipeline` behind options.
+fn no_command(words: &[String]) -> &'static str
+    ensures { result.now ≡ spec.no_command (map string_bytes words.now) }
+{
+    if has_word(words, VALIDATE) {
+        "error: validate-pipeline needs no database, so no option stands before it: ccr_run validate-pipeline FILE \
+         [--strict]"
+    } else {
+        "error: no command\n\nFor more information, try '--help'."
+    }
+}
+
 /// Prints what `clap` answers: help to standard output, and a misuse to standard error.
 fn print_misuse<R: Print + Eprint>(rt: &R, words: &[String], misuse: &Misuse) -> io::Result<()> {
     match misuse {
@@ -187,9 +198,7 @@ fn print_misuse<R: Print + Eprint>(rt: &R, words: &[String], misuse: &Misuse) ->
         Misuse::Option(fault) => {
             eprintln!(rt; "error: {fault}\n\nFor more information, try '--help'.")
         }
-        Misuse::NoCommand => eprintln!(rt;
-            "error: no command\n\nFor more information, try '--help'."
-        ),
+        Misuse::NoCommand => eprintln!(rt; "{}", no_command(words)),
         Misuse::Validation => eprintln!(rt; "usage: ccr_run {VALIDATE} FILE [--strict]"),
         Misuse::NoMemory => eprintln!(rt; "refused: out of memory"),
     }

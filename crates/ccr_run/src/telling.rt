@@ -134,7 +134,8 @@ fn say_unused<E: Write>(errors: &mut Errors<E>, findings: &[Finding])
 {
     if has_unused(findings) {
         errors.say(
-            "hint: unused: these keys of Concourse have no effect; ccr_run validate-pipeline FILE says of each what to do instead",
+            "hint: unused: these keys of Concourse have no effect; ccr_run validate-pipeline FILE says of each what \
+             to do instead",
         );
     }
 }
@@ -145,7 +146,8 @@ fn say_vars<E: Write>(errors: &mut Errors<E>, findings: &[Finding])
 {
     if has_vars(findings) {
         errors.say(
-            "hint: vars: no variable is put in, and a text with ((..)) stays as it stands: write its value in its place, and set it again, unless it is arithmetic of a shell",
+            "hint: vars: no variable is put in, and a text with ((..)) stays as it stands: write its value in its \
+             place, and set it again, unless it is arithmetic of a shell",
         );
     }
 }
@@ -176,8 +178,8 @@ impl<'e, E: Write> Telling<'e, E> {
         }
     }
 
-    /// Tells what was found in a pipeline that was set, but for keys of Concourse that have no effect: the command lists those. And
-    /// then what to do about it, if it isn't what it should be.
+    /// Tells what was found in a pipeline that was set, but for keys of Concourse that have no effect: the command
+    /// lists those. And then what to do about it, if it isn't what it should be.
     pub fn gates(&mut self, findings: &Findings)
         ensures told { told_data self.new
             ≡ record (told_data self.old) { gates = Some (found_lines findings.now.items) } }

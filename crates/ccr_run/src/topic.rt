@@ -11,7 +11,8 @@ const LIST: &str =
 
 /// What a get's or a put's program has to print.
 const REPLY: &str =
-    "a get's or put's program prints an object with its version on standard output, as {\"version\":{\"ref\":\"61cbef\"}}, and nothing else there";
+    "a get's or put's program prints an object with its version on standard output, as \
+     {\"version\":{\"ref\":\"61cbef\"}}, and nothing else there";
 
 /// What a version has to be.
 const TEXTS: &str = "a version's values are texts: {\"number\":\"4\"}, not {\"number\":4}";
@@ -36,10 +37,8 @@ pub enum Topic {
     NoneAllowed,
     /// A clash has the demand that a version has passed a job, and none that one is allowed.
     NonePassed,
-    /// A resource is pinned.
-    Pinned,
-    /// A build is to be aborted.
-    AbortAsked,
+    /// A build that is shown errored.
+    BuildErrored,
     /// An output is no JSON.
     StepNotJson,
     /// An output is no object.
@@ -54,8 +53,10 @@ pub enum Topic {
     FileUnread,
     /// A task's file is no task.
     NoTask,
-    /// A program doesn't start.
+    /// A get's or put's program doesn't start.
     StepNotStarted,
+    /// A task's program doesn't start.
+    TaskNotStarted,
     /// A task's program ends with a status, other than that of a limit.
     StepStatus,
     /// A step has no directory.
@@ -74,15 +75,14 @@ impl Topic {
             Topic::CheckFolder => ": refused: folder fault\n",
             Topic::NoneSatisfies => ": none satisfies\n",
             Topic::NoneAllowed | Topic::NonePassed => "\nclash: ",
-            Topic::Pinned => "pinned ",
-            Topic::AbortAsked => "abort asked: ",
+            Topic::BuildErrored => " errored\n",
             Topic::StepNotJson | Topic::FileNotJson => ": not JSON\n",
             Topic::StepWrongKind => ": wrong kind\n",
             Topic::StepNoVersion => ": missing version\n",
             Topic::StepNotText => ": version not text\n",
             Topic::FileUnread => ": cannot read\n",
             Topic::NoTask => " at task",
-            Topic::StepNotStarted => ": not started: ",
+            Topic::StepNotStarted | Topic::TaskNotStarted => ": not started: ",
             Topic::StepStatus => ": exit status ",
             Topic::StepFolder => ": folder fault\n",
         }
@@ -95,7 +95,8 @@ impl Topic {
         match self {
             Topic::NoneAllowed => " takes an allowed version",
             Topic::NonePassed => " passed ",
-            Topic::FileNotJson | Topic::FileUnread | Topic::NoTask | Topic::StepStatus => ": task ",
+            Topic::FileNotJson | Topic::FileUnread | Topic::NoTask => ": task ",
+            Topic::TaskNotStarted | Topic::StepStatus => ": task ",
             _ => "",
         }
     }
@@ -106,7 +107,7 @@ impl Topic {
     {
         match self {
             Topic::NonePassed => Some(" takes an allowed version"),
-            Topic::StepNotJson => Some(": task "),
+            Topic::StepNotJson | Topic::StepNotStarted => Some(": task "),
             Topic::StepStatus => Some(": exit status 124\n"),
             _ => None,
         }
@@ -131,24 +132,31 @@ impl Topic {
             Topic::CheckNotText | Topic::StepNotText => TEXTS,
             Topic::CheckFolder | Topic::StepFolder => WORK,
             Topic::NoneSatisfies =>
-                "nothing is there that passed the jobs before it, and that no pin leaves out and nobody disabled: explain JOB says more, check-resource NAME looks for new versions",
+                "nothing is there that passed the jobs before it, and that no pin leaves out and nobody disabled: \
+                 explain JOB says more, check-resource NAME looks for new versions",
             Topic::NoneAllowed =>
-                "an allowed version is one that no pin leaves out and nobody disabled: resource-versions NAME shows what there is, check-resource NAME looks for more",
+                "an allowed version meets each pin, and nobody disabled it; with passed beside it, none of these has \
+                 passed. resource-versions NAME shows versions, resources the pins; check-resource NAME looks for \
+                 more",
             Topic::NonePassed =>
-                "no build of the job behind passed has moved this yet: explain that job, too. Where jobs wait for each other, ccr_run --db FILE get-pipeline > p.json; ccr_run validate-pipeline p.json names them",
-            Topic::Pinned =>
-                "jobs get no other version of it now, and none if no version has what the pin has: resource-versions NAME shows which there are, unpin-resource NAME takes it back",
-            Topic::AbortAsked =>
-                "builds --job JOB --look shows whether it is there and runs; if it isn't there yet, it is aborted when it comes. rmdir WORK/JOB/abort-N takes this back",
+                "no build of the job behind passed has succeeded with a version that is allowed here: explain that \
+                 job, too. If two jobs wait for each other, ccr_run validate-pipeline FILE names them",
+            Topic::BuildErrored =>
+                "why it errored was said on standard error as it ended: ccr log JOB N shows that, where ccr keeps \
+                 logs (examples/operating)",
             Topic::StepNotJson | Topic::StepWrongKind | Topic::StepNoVersion => REPLY,
             Topic::FileNotJson =>
                 "a task's file is JSON: examples/operating/pipeline-json --task FILE makes it of YAML",
             Topic::FileUnread =>
-                "a task's file is named by its path in the build's directory, as repo/unit.json, and is that of the version that the build got: is it in there?",
-            Topic::NoTask =>
-                "a task's file has what a task's config has, as {\"inputs\":[{\"name\":\"repo\"}],\"run\":{\"path\":\"make\",\"args\":[\"test\"]}}",
+                "a task's file is named by its path in the build's directory, as repo/unit.json, and is that of the \
+                 version that the build got: is it in there?",
+            Topic::NoTask => "a task's file has what a task's config has, as \
+                 {\"inputs\":[{\"name\":\"repo\"}],\"run\":{\"path\":\"make\",\"args\":[\"test\"]}}",
             Topic::StepNotStarted =>
-                "is it there, and executable, and is run.dir there? run.path is one program; its arguments belong into run.args",
+                "is it there, and executable, and is the program of its first line (#!) there?",
+            Topic::TaskNotStarted =>
+                "is it there, and executable, is the program of its first line (#!), and is run.dir? run.path is one \
+                 program; its arguments belong into run.args",
             Topic::StepStatus =>
                 "what a program prints on standard output isn't shown; what it prints on standard error is (>&2)",
         }
@@ -160,7 +168,7 @@ impl Topic {
     {
         match self {
             Topic::NoneAllowed | Topic::NonePassed => !has_word(words, "explain"),
-            Topic::Pinned => !has_word(words, "pin-resource"),
+            Topic::BuildErrored => !has_word(words, "build"),
             Topic::StepStatus => has_option(words, "--launcher"),
             _ => has_word(words, "explain"),
         }

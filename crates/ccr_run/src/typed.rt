@@ -22,16 +22,6 @@ pub fn is_option(word: &str) -> bool
     }
 }
 
-/// Whether the word behind the program's name is an option.
-pub fn begins_with_option(words: &[String]) -> bool
-    ensures { result ≡ spec.begins_with_option (map string_bytes words.now) }
-{
-    match word_at(words, 1) {
-        Some(word) => is_option(word),
-        None => false,
-    }
-}
-
 /// Whether a word is one of these.
 pub fn has_word(words: &[String], word: &str) -> bool
     ensures { result ≡ spec.has_word word.now (map string_bytes words.now) }

@@ -23,10 +23,10 @@ impl<R: Runner, S: Shelf, T: Storage> Server<R, S, T> {
     /// Does what is commanded: the exit status. Its lines are printed as what they tell of is stored; what changes nothing is
     /// shown by what is given for it.
     ///
-    /// The statuses are 0, 1 for what came to nothing (a check without versions, a build that didn't succeed, or one without
-    /// a certificate), and 3 where a search would go over the budget. A command that is refused does nothing: `Core` where there is no
-    /// pipeline, no such resource or job, or where the core refuses its event; `Read`, `File`, `BadPin`. `TurnsUsedUp`
-    /// where a build still runs after 10,000,000 turns beside those of the rounds.
+    /// The statuses are 0, 1 for what came to nothing (a check without versions, a build that didn't succeed, or one
+    /// without a certificate), and 3 where a search would go over the budget. A command that is refused does nothing:
+    /// `Core` where there is no pipeline, no such resource or job, or where the core refuses its event; `Read`, `File`,
+    /// `BadPin`. `TurnsUsedUp` where a build still runs after 10,000,000 turns beside those of the rounds.
     ///
     /// Early ends: `NoMemory` if out of memory, and the server goes on; `Store` where the storage failed, and
     /// the server has closed; `Closed` where it had closed before, and nothing is done.

@@ -15,7 +15,9 @@ use ccr_task::Shelf;
 /// It is a law over the definitions alone; nothing runs.
 pub fn turns_go_round()
     ensures { TurnsGoRound }
-{}
+{
+    // Nothing runs.
+}
 
 /// What a call does, the whole of it or cut short, is a run of the core: the events of its items lead from the state before it to
 /// the one after it, with their replies, and each of them is one that the laws over lists of events speak of. So what holds
@@ -47,9 +49,9 @@ pub fn calls_make_best<R: Runner, S: Shelf, T: Storage, O: Lines>()
     ensures reached { CoresAreReached R.Runner S.Shelf T.Storage O.Lines }
 {}
 
-/// However often a database is opened, and whatever its servers are called for: each build in its history was there before the first
-/// opening and used the same, or one event of one opening made it, with the best places then. What a build used stays. A
-/// server begins with the history that the last one left, in which nothing runs.
+/// However often a database is opened, and whatever its servers are called for: each build in its history was there
+/// before the first opening and used the same, or one event of one opening made it, with the best places then. What a
+/// build used stays. A server begins with the history that the last one left, in which nothing runs.
 ///
 /// It is a law over the definitions alone; nothing runs.
 pub fn openings_make_best()

@@ -24,6 +24,13 @@ pub struct Server<R, S, T> {
 }
 
 impl<R, S, T> Server<R, S, T> {
+    /// The core, as the commands so far have left it.
+    pub fn core(&self) -> &Core
+        ensures { result.now ≡ self.now.core }
+    {
+        &self.core
+    }
+
     /// The text of the pipeline that was set last, if one was.
     pub fn text(&self) -> Option<&[u8]>
         ensures { option_copied result ≡ (core_data self.now.core).history.text }

@@ -457,8 +457,8 @@ pub(crate) fn read_tables(alloc: Global, seen: &Seen) -> Result<History, StoreFa
     }
 }
 
-/// Adds the builds, disabled places and pins of the history that has these rows, if there is one. Whether it has them is for the caller to
-/// see.
+/// Adds the builds, disabled places and pins of the history that has these rows, if there is one. Whether it has them
+/// is for the caller to see.
 pub(crate) fn read_builds(
     alloc: Global,
     history: &mut History,

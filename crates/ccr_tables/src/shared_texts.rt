@@ -1,5 +1,5 @@
 //! Texts that many rows share.
-ghost use Rattle.std.specs.Prelude.{◌≡◌, IfOk, string_bytes};
+ghost use Rattle.std.specs.Prelude.{◌≡◌, [], IfOk, string_bytes};
 
 use std::alloc::{AllocError, Global};
 use std::rc::Rc;
@@ -16,7 +16,9 @@ pub(crate) struct SharedTexts {
 
 impl SharedTexts {
     /// No text.
-    pub(crate) fn new(alloc: Global) -> SharedTexts {
+    pub(crate) fn new(alloc: Global) -> SharedTexts
+        ensures { result.known.items ≡ [] }
+    {
         SharedTexts {
             alloc,
             known: Vec::new(alloc),

@@ -28,16 +28,20 @@ impl Table {
         match self {
             Table::Meta => "CREATE TABLE meta(k INTEGER PRIMARY KEY, v BLOB NOT NULL)",
             Table::Scopes => {
-                "CREATE TABLE scopes(id INTEGER PRIMARY KEY, resource TEXT NOT NULL,\n  kind TEXT NOT NULL, source TEXT NOT NULL, UNIQUE(resource, kind, source))"
+                "CREATE TABLE scopes(id INTEGER PRIMARY KEY, resource TEXT NOT NULL,\n  kind TEXT NOT NULL, \
+                 source TEXT NOT NULL, UNIQUE(resource, kind, source))"
             }
             Table::Versions => {
-                "CREATE TABLE versions(scope INTEGER NOT NULL, place INTEGER NOT NULL,\n  body TEXT NOT NULL, PRIMARY KEY(scope, place), UNIQUE(scope, body))"
+                "CREATE TABLE versions(scope INTEGER NOT NULL, place INTEGER NOT NULL,\n  body TEXT NOT NULL, \
+                 PRIMARY KEY(scope, place), UNIQUE(scope, body))"
             }
             Table::Builds => {
-                "CREATE TABLE builds(id INTEGER PRIMARY KEY, job TEXT NOT NULL,\n  number INTEGER NOT NULL, status INTEGER NOT NULL, UNIQUE(job, number))"
+                "CREATE TABLE builds(id INTEGER PRIMARY KEY, job TEXT NOT NULL,\n  number INTEGER NOT NULL, \
+                 status INTEGER NOT NULL, UNIQUE(job, number))"
             }
             Table::Pairs => {
-                "CREATE TABLE pairs(build INTEGER NOT NULL, input TEXT NOT NULL,\n  scope INTEGER NOT NULL, place INTEGER NOT NULL,\n  PRIMARY KEY(build, input, scope, place))"
+                "CREATE TABLE pairs(build INTEGER NOT NULL, input TEXT NOT NULL,\n  scope INTEGER NOT NULL, \
+                 place INTEGER NOT NULL,\n  PRIMARY KEY(build, input, scope, place))"
             }
             Table::Pins => "CREATE TABLE pins(resource TEXT PRIMARY KEY, body TEXT NOT NULL)",
         }

@@ -55,7 +55,8 @@ fn exited(alloc: Global, ask: &Ask<'_>, output: &[u8]) -> Result<Said, AllocErro
     }
 }
 
-/// What the end of an ask's program answers, which was launched at this path (Concourse: implementing a resource type, in and out; task step).
+/// What the end of an ask's program answers, which was launched at this path (Concourse: implementing a resource type,
+/// in and out; task step).
 ///
 /// With status 0 a fetch is done and a push gives its version, where the reply has one and can be read; a task is done.
 /// Another status is a failure; all else, an unreadable reply too, is an error. An ask for a file starts no program:

@@ -29,8 +29,8 @@ fn judged<I: Read + Drop, F: Read + Drop>(
     Ok(told)
 }
 
-/// Judges what the source holds, and tells it: the line on `out` alone, or on `errors` why there is none; the exit status. The only errors
-/// are those of writing.
+/// Judges what the source holds, and tells it: the line on `out` alone, or on `errors` why there is none; the exit
+/// status. The only errors are those of writing.
 pub(crate) fn answer<I: Read + Drop, F: Read + Drop, W: Write, E: Write>(
     alloc: Global,
     source: Result<Source<I, F>, InputFault>,

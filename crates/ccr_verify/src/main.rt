@@ -1,9 +1,10 @@
 //! `ccr_verify`: judges anybody's claims about problems.
 //!
-//! It reads a problem's text that is followed by a claim's or a proof's, from standard input or from two files, prints one line, and
-//! ends with that line's status. All that it decides is decided by [`judge`](ccr_check::judge), whose contract names the definitions.
-//! `answer` has no runtime: it reads what it is given and writes to what it is given, as its contract says. What is trusted is one line: that `main`
-//! gives it what the program's words name, standard output and standard error.
+//! It reads a problem's text that is followed by a claim's or a proof's, from standard input or from two files, prints
+//! one line, and ends with that line's status. All that it decides is decided by [`judge`](ccr_check::judge), whose
+//! contract names the definitions. `answer` has no runtime: it reads what it is given and writes to what it is given,
+//! as its contract says. What is trusted is one line: that `main` gives it what the program's words name, standard
+//! output and standard error.
 #![tactic(auto)]
 
 mod answer;

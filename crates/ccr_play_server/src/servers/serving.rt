@@ -1,5 +1,5 @@
 //! A server over a script.
-ghost use Rattle.std.specs.Prelude.{⊤};
+ghost use Rattle.std.specs.Prelude.{◌≡◌, ◌≤◌, [], None, ⊤, IfOk, IsOk};
 ghost use Rattle.ccr_process.specs.Runs.{script_pairs};
 ghost use Rattle.ccr_task.specs.Shelves.{script_calls};
 ghost use Rattle.ccr_serve.specs.Views.{view_of, IsKept};
@@ -57,7 +57,9 @@ impl<W: Write + Drop> Serving<W> {
         writer: W,
         script: Script,
         out: &mut Printed<W, E>,
-    ) -> Result<Serving<W>, ServeFault> {
+    ) -> Result<Serving<W>, ServeFault>
+        ensures { IsOk result → script.history.text ≡ None }
+    {
         // A script's history has builds and no pipeline, so there is none that a server couldn't read.
         if script.history.text().is_some() {
             return Err(ServeFault::Closed);
@@ -90,23 +92,29 @@ impl<W: Write + Drop> Serving<W> {
         }
     }
 
-    /// Does a command.
+    /// Does a command. Nothing waits to be shown after it where nothing waited before.
     pub(super) fn command<E: Write>(
         &mut self,
         command: &Command,
         out: &mut Printed<W, E>,
-    ) -> Result<u8, ServeFault> {
+    ) -> Result<u8, ServeFault>
+        ensures { out.old.waiting ≡ [] → out.new.waiting ≡ [] }
+    {
         self.server.command(&AsText, command, out)
     }
 
     /// Goes a round.
-    pub(super) fn round<E: Write>(&mut self, out: &mut Printed<W, E>) -> Result<u8, ServeFault> {
+    pub(super) fn round<E: Write>(&mut self, out: &mut Printed<W, E>) -> Result<u8, ServeFault>
+        ensures { IfOk result (λ status. status ≡ 0) }
+    {
         self.server.round(out)?;
         Ok(0)
     }
 
     /// Takes a turn: 0, or 1 where no build runs.
-    pub(super) fn turn<E: Write>(&mut self, out: &mut Printed<W, E>) -> Result<u8, ServeFault> {
+    pub(super) fn turn<E: Write>(&mut self, out: &mut Printed<W, E>) -> Result<u8, ServeFault>
+        ensures { IfOk result (λ status. status ≤ 1) }
+    {
         if self.server.turn(out)? { Ok(0) } else { Ok(1) }
     }
 }

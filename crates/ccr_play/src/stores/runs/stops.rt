@@ -1,15 +1,17 @@
-//! Stops at each call of a file: a store is run over files of which one fails from a call on, and its history is loaded from what is left.
+//! Stops at each call of a file: a store is run over files of which one fails from a call on, and its history is loaded
+//! from what is left.
 //!
-//! What is left is looked at twice: as a program that is killed leaves it, with all that was written, and as a crash of the machine leaves
-//! it, without what wasn't synced.
+//! What is left is looked at twice: as a program that is killed leaves it, with all that was written, and as a crash of
+//! the machine leaves it, without what wasn't synced.
 
 ghost use Rattle.std.specs.Prelude.{◌≡◌, false};
 
-use super::files::{empty_files, fused, left_by_crash, left_by_kill, options};
-use super::foreign::lowered;
-use super::kept::Kept;
-use super::runs::{Reached, Stage, run};
-use super::stored::{held, whole_text};
+use super::{Reached, Stage, run};
+use crate::answers::Answers;
+use crate::stores::files::{empty_files, fused, left_by_crash, left_by_kill, options};
+use crate::stores::foreign::lowered;
+use crate::stores::kept::{Changed, Kept};
+use crate::stores::{held, whole_text};
 use anyhow::{Result, anyhow, bail};
 use ccr_history::{History, Storage};
 use ccr_store::Store;
@@ -19,6 +21,24 @@ use std::alloc::Global;
 
 /// More calls of a file than any of these runs makes.
 const MOST_CALLS: u64 = 1_000_000;
+
+/// What is stopped, with after how many frames the log is copied.
+#[derive(Clone, Copy)]
+pub(crate) enum Stop {
+    /// A store that keeps lines.
+    Kept(u32),
+    /// A store that takes the history of lines in the first format.
+    Raised(u32),
+}
+
+impl Answers for Stop {
+    fn answer(self, alloc: Global, given: &str) -> Result<String> {
+        match self {
+            Stop::Kept(frames) => stops_told(alloc, given, frames),
+            Stop::Raised(frames) => raises_told(alloc, given, frames),
+        }
+    }
+}
 
 /// What is run: files to begin with, after how many frames the log is copied, the lines that are kept, and the history after each
 /// number of them, as text.
@@ -93,7 +113,8 @@ fn held_over<S: Alter + Drop>(alloc: Global, conn: Connection<S>) -> Result<Stri
     held(alloc, store)
 }
 
-/// An error where a history isn't the one after so many lines, or, where the next line's change was being committed, the one after that.
+/// An error where a history isn't the one after so many lines, or, where the next line's change was being committed,
+/// the one after that.
 fn check_found(texts: &[String], stage: Stage, kept: usize, text: &str) -> Result<()> {
     let allowed = if stage == Stage::Committing { 2 } else { 1 };
     if texts
@@ -180,7 +201,8 @@ impl Trial<'_> {
         let name = name_of(failing);
         let count = stops.len();
         Ok(format!(in alloc;
-            "{what}, {name}: {count} stops, {opening} at opening, {adopting} at adopting, {loading} at loading, {committing} at commits\n"
+            "{what}, {name}: {count} stops, {opening} at opening, {adopting} at adopting, \
+             {loading} at loading, {committing} at commits\n"
         )?)
     }
 
@@ -253,10 +275,10 @@ fn stopped(alloc: Global, lines: &str, frames: u32, texts: &[String]) -> Result<
     Ok(told)
 }
 
-/// Stops a store at each call of each of its files: while it is made in empty files and keeps these lines, and while all of it is loaded. The
-/// lines that tell how often it was stopped; an error where a stop left another history than the one before the change that it cut short,
-/// or after it.
-pub(super) fn stops_told(alloc: Global, lines: &str, frames: u32) -> Result<String> {
+/// Stops a store at each call of each of its files: while it is made in empty files and keeps these lines, and while
+/// all of it is loaded. The lines that tell how often it was stopped; an error where a stop left another history than
+/// the one before the change that it cut short, or after it.
+fn stops_told(alloc: Global, lines: &str, frames: u32) -> Result<String> {
     let texts = texts_of(alloc, lines)?;
     stopped(alloc, lines, frames, &texts)
 }
@@ -293,9 +315,9 @@ fn raised(alloc: Global, lines: &str, frames: u32, texts: &[String]) -> Result<S
     Ok(told)
 }
 
-/// The same while a database of the first format is taken that holds the history of these lines: it is loaded and written over. And then
-/// while it is taken as it was left, which writes nothing.
-pub(super) fn raises_told(alloc: Global, lines: &str, frames: u32) -> Result<String> {
+/// The same while a database of the first format is taken that holds the history of these lines: it is loaded and
+/// written over. And then while it is taken as it was left, which writes nothing.
+fn raises_told(alloc: Global, lines: &str, frames: u32) -> Result<String> {
     let texts = texts_of(alloc, lines)?;
     raised(alloc, lines, frames, &texts)
 }
