@@ -84,22 +84,8 @@ is_untraced words is_done printed = is_done && (not printed.is_used && has_word 
 abbrev pub untraced_lines : List Text → Bool → HeardData → List Text
 untraced_lines words is_done printed = if is_untraced words is_done printed then untraced_line ∷ [] else []
 
--- ---- looks that show nothing
--- about a look that shows nothing
-abbrev pub empty_line : Text
-empty_line = codes "hint: nothing of it is in the database: is --db right?"
-
--- a look was done that is no trace, and nothing was printed
-abbrev pub is_empty_look : List Text → Bool → HeardData → Bool
-is_empty_look words is_done printed =
-    is_done && (not printed.is_used && (has_word (codes "--look") words && not (has_word (codes "trace") words)))
-
--- the line about it
-abbrev pub empty_lines : List Text → Bool → HeardData → List Text
-empty_lines words is_done printed = if is_empty_look words is_done printed then empty_line ∷ [] else []
-
 -- WHAT IS TOLD LAST, by what was printed and what was told beside it
 abbrev pub TellsLast : List Text → Bool → HeardData → HeardData → WriterData → WriterData → Type 0
 TellsLast words is_done printed noted old new =
     (build : Option Text) × AreRead (silent_build printed.kept noted.kept) build
-    × GetsLines (silent_lines build ++ (untraced_lines words is_done printed ++ empty_lines words is_done printed)) old new
+    × GetsLines (silent_lines build ++ untraced_lines words is_done printed) old new

@@ -27,7 +27,7 @@ exit_status_of outcome = printed_status outcome.is_printed (status_of outcome.en
 
 -- about a word that isn't known
 abbrev pub unknown_word : Text
-unknown_word = codes "hint: names stand alone, without -j, -r or the like; --db, --types, --work, --launcher and --budget stand before the command; ccr_run COMMAND --help has what stands behind it"
+unknown_word = codes "hint: names stand without -j or -r, but for builds --job JOB; --db, --types, --work, --launcher and --budget stand before the command; ccr_run COMMAND --help has what stands behind it"
 
 -- about a command that isn't known
 abbrev pub unknown_command : Text

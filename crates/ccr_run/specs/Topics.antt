@@ -76,11 +76,11 @@ start_hint = codes "is it there, and executable, and is the program of its first
 
 -- about a task's program that doesn't start
 abbrev pub run_hint : Text
-run_hint = codes "is it there, and executable, is the program of its first line (#!), and is run.dir? run.path is one program; its arguments belong into run.args"
+run_hint = codes "is it there, and executable? Is run.dir there, and the program of its first line (#!)? run.path is one program; its arguments belong into run.args"
 
 -- about a build that is shown and errored
 abbrev pub why_hint : Text
-why_hint = codes "why it errored was said on standard error as it ended: ccr log JOB N shows that, where ccr keeps logs (examples/operating)"
+why_hint = codes "what was said of it as it ended isn't in the database: trigger-job JOB has it said again; where ccr keeps logs, ccr log JOB N shows it"
 
 -- about a program that ends with a status
 abbrev pub status_hint : Text

@@ -1,7 +1,7 @@
 //! What is told last, of all that was printed and told.
 ghost use Rattle.std.specs.Prelude.{◌≡◌, map, option_map, string_bytes};
 ghost use Rattle.ccr_run.specs.Heard.{heard_data};
-ghost use Rattle.ccr_run.specs.Last.{AreRead, TellsLast, empty_lines, silent_lines, untraced_lines};
+ghost use Rattle.ccr_run.specs.Last.{AreRead, TellsLast, silent_lines, untraced_lines};
 ghost use Rattle.ccr_run.specs.Last as spec;
 ghost use Rattle.ccr_run.specs.Writers.{GetsLines};
 
@@ -121,19 +121,8 @@ fn tell_untraced<E: Write>(errors: &mut Errors<E>, words: &[String], is_done: bo
     }
 }
 
-/// Says what to do about a look that shows nothing, if it is no trace.
-fn tell_empty<E: Write>(errors: &mut Errors<E>, words: &[String], is_done: bool, printed: &Heard)
-    ensures { GetsLines (empty_lines (map string_bytes words.now) is_done (heard_data printed.now))
-        errors.old errors.new }
-{
-    let is_look = has_word(words, "--look") && !has_word(words, "trace");
-    if is_done && !printed.is_used && is_look {
-        errors.say("hint: nothing of it is in the database: is --db right?");
-    }
-}
-
 /// Says last what to do, by what was printed, and what was told beside it: about a build that errored and of which no line
-/// says why, and about a trace or a look that was done and shows nothing.
+/// says why, and about a trace that was done and shows nothing.
 pub fn tell_last<E: Write>(
     errors: &mut Errors<E>,
     printed: &Heard,
@@ -147,5 +136,4 @@ pub fn tell_last<E: Write>(
     let build = read(silent_build(&printed.kept, &noted.kept));
     tell_silent(errors, build);
     tell_untraced(errors, words, is_done, printed);
-    tell_empty(errors, words, is_done, printed);
 }

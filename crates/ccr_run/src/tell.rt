@@ -121,8 +121,7 @@ pub fn tell<'e, E: Write>(telling: &mut Telling<'e, E>, order: &Order<'e>, outco
 
 /// About a word that isn't known.
 const UNKNOWN_WORD: &str =
-    "hint: names stand alone, without -j, -r or the like; --db, --types, --work, --launcher and --budget stand \
-     before the command; ccr_run COMMAND --help has what stands behind it";
+    "hint: names stand without -j or -r, but for builds --job JOB; --db, --types, --work, --launcher and --budget stand before the command; ccr_run COMMAND --help has what stands behind it";
 
 /// About a command that isn't known.
 const UNKNOWN_COMMAND: &str =

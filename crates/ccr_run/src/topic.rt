@@ -142,8 +142,7 @@ impl Topic {
                 "no build of the job behind passed has succeeded with a version that is allowed here: explain that \
                  job, too. If two jobs wait for each other, ccr_run validate-pipeline FILE names them",
             Topic::BuildErrored =>
-                "why it errored was said on standard error as it ended: ccr log JOB N shows that, where ccr keeps \
-                 logs (examples/operating)",
+                "what was said of it as it ended isn't in the database: trigger-job JOB has it said again; where ccr keeps logs, ccr log JOB N shows it",
             Topic::StepNotJson | Topic::StepWrongKind | Topic::StepNoVersion => REPLY,
             Topic::FileNotJson =>
                 "a task's file is JSON: examples/operating/pipeline-json --task FILE makes it of YAML",
@@ -155,8 +154,7 @@ impl Topic {
             Topic::StepNotStarted =>
                 "is it there, and executable, and is the program of its first line (#!) there?",
             Topic::TaskNotStarted =>
-                "is it there, and executable, is the program of its first line (#!), and is run.dir? run.path is one \
-                 program; its arguments belong into run.args",
+                "is it there, and executable? Is run.dir there, and the program of its first line (#!)? run.path is one program; its arguments belong into run.args",
             Topic::StepStatus =>
                 "what a program prints on standard output isn't shown; what it prints on standard error is (>&2)",
         }

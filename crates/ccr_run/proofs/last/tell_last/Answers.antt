@@ -8,5 +8,5 @@ pub returns : goal.returns
 returns g c = (
   option_map (λ text. text.now) c.read-build.result,
   subst (λ (b : Option Text). AreRead b (option_map (λ text. text.now) c.read-build.result)) c.silent_build.ensures c.read-build.ensures,
-  got_more _ _ _ _ _ c.tell_silent.ensures (got_more _ _ _ _ _ c.tell_untraced.ensures c.tell_empty.ensures),
+  got_more _ _ _ _ _ c.tell_silent.ensures c.tell_untraced.ensures,
 )
