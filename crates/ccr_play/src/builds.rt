@@ -4,12 +4,11 @@
 //! in plan order. Each other line is an answer to what the build asked last: `done`, `failed`, `errored`, `aborted`,
 //! `pushed VERSION` or `config CONFIG`. The answer to a line is what the build asks then, as JSON, or how it ended and
 //! which versions it moved.
-ghost use Rattle.std.specs.Prelude.{◌≡◌, None};
 
-use crate::steps::{Moves, Starts};
+use crate::steps::{push_moved, started_of};
 use anyhow::{Result, anyhow};
 use ccr_pipeline::{Pipeline, read};
-use ccr_rows::{Asked, Player, Told, answered_of, outcome_name, split};
+use ccr_rows::{Player, answered_of, ask_text, outcome_name, split};
 use ccr_steps::{BuildRun, FeedFault};
 use std::alloc::{AllocError, Global};
 
@@ -26,13 +25,13 @@ fn push_end(alloc: Global, text: &mut String, run: &BuildRun) -> Result<(), Allo
         text.push_str("outcome ")?;
         text.push_str(outcome_name(outcome))?;
     }
-    run.push_moved(alloc, text, "\nmoved")
+    push_moved(alloc, text, "\nmoved", run)
 }
 
 /// What a build asks, or, where it has ended, its outcome and what it moved.
 fn state_of(alloc: Global, run: &BuildRun) -> Result<String, AllocError> {
     if let Some(ask) = run.wants() {
-        return Asked { ask, turn: None }.told(alloc);
+        return ask_text(alloc, &ask, None);
     }
     let mut text = String::new(alloc);
     push_end(alloc, &mut text, run)?;
@@ -52,16 +51,14 @@ fn fed(alloc: Global, run: &mut BuildRun, line: &str) -> Result<String> {
 /// A build of the job of this name.
 fn run_of(alloc: Global, pipeline: &Pipeline, name: &str, versions: &str) -> Result<BuildRun> {
     match pipeline.jobs().iter().find(|job| job.name.as_str() == name) {
-        Some(job) => job.build(alloc, versions),
+        Some(job) => started_of(alloc, job, versions),
         None => Err(anyhow!("no such job")),
     }
 }
 
 impl Builds {
     /// No pipeline, and no build.
-    pub(crate) fn new() -> Builds
-        ensures { (result.pipeline ≡ None) × (result.run ≡ None) }
-    {
+    pub(crate) fn new() -> Builds {
         Builds {
             pipeline: None,
             run: None,

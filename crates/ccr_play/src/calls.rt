@@ -1,5 +1,5 @@
 //! What is printed for a whole text: a pipeline or a problem.
-ghost use Rattle.std.specs.Prelude.{◌≡◌, ◌≤◌, IfOk};
+ghost use Rattle.std.specs.Prelude.{◌≤◌};
 ghost use Rattle.ccr_proof.specs.Claim.{IsClaim};
 
 use crate::problems::proof_text;
@@ -12,9 +12,7 @@ use ccr_rows::{Answer, OVER_BUDGET};
 use std::alloc::{AllocError, Global};
 
 /// A line that tells why a text is refused.
-fn refused(alloc: Global, fault: &ReadFault) -> Result<Answer, AllocError>
-    ensures { IfOk result (λ answer. answer.status ≡ 1) }
-{
+fn refused(alloc: Global, fault: &ReadFault) -> Result<Answer, AllocError> {
     if let ReadFault::NoMemory = fault {
         return Err(AllocError);
     }
@@ -42,9 +40,7 @@ fn pipeline_told(alloc: Global, pipeline: &Pipeline) -> Result<String, AllocErro
 }
 
 /// How many resources and jobs a pipeline has, and its unused keys, or why it is refused.
-pub(crate) fn answer_pipeline(alloc: Global, text: &[u8]) -> Result<Answer, AllocError>
-    ensures { IfOk result (λ answer. answer.status ≤ 1) }
-{
+pub(crate) fn answer_pipeline(alloc: Global, text: &[u8]) -> Result<Answer, AllocError> {
     match read(alloc, text) {
         Ok(pipeline) => Ok(Answer {
             lines: pipeline_told(alloc, &pipeline)?,
@@ -55,9 +51,7 @@ pub(crate) fn answer_pipeline(alloc: Global, text: &[u8]) -> Result<Answer, Allo
 }
 
 /// The line that tells why a problem is refused.
-fn bad_problem(alloc: Global, fault: ProblemFault) -> Result<Answer, AllocError>
-    ensures { IfOk result (λ answer. answer.status ≡ 1) }
-{
+fn bad_problem(alloc: Global, fault: ProblemFault) -> Result<Answer, AllocError> {
     if let ProblemFault::NoMemory = fault {
         return Err(AllocError);
     }
@@ -71,7 +65,6 @@ fn bad_problem(alloc: Global, fault: ProblemFault) -> Result<Answer, AllocError>
 pub(crate) fn answer_resolve(alloc: Global, text: &[u8], budget: u32) -> Result<Answer, AllocError>
     requires least { 1 ≤ budget }
     requires most { budget ≤ 1000000 }
-    ensures { IfOk result (λ answer. answer.status ≤ OVER_BUDGET) }
 {
     match read_problem(alloc, text) {
         Ok(problem) => resolved(alloc, &problem, budget),
@@ -82,7 +75,6 @@ pub(crate) fn answer_resolve(alloc: Global, text: &[u8], budget: u32) -> Result<
 fn resolved(alloc: Global, problem: &Problem, budget: u32) -> Result<Answer, AllocError>
     requires least { 1 ≤ budget }
     requires most { budget ≤ 1000000 }
-    ensures { IfOk result (λ answer. answer.status ≤ OVER_BUDGET) }
 {
     match proof_text(alloc, problem, budget)? {
         Some(lines) => Ok(Answer { lines, status: 0 }),
@@ -94,7 +86,6 @@ fn resolved(alloc: Global, problem: &Problem, budget: u32) -> Result<Answer, All
 pub(crate) fn answer_choose(alloc: Global, text: &[u8], budget: u32) -> Result<Answer, AllocError>
     requires least { 1 ≤ budget }
     requires most { budget ≤ 1000000 }
-    ensures { IfOk result (λ answer. answer.status ≤ OVER_BUDGET) }
 {
     let problem = match read_problem(alloc, text) {
         Ok(problem) => problem,
@@ -110,7 +101,6 @@ pub(crate) fn answer_choose(alloc: Global, text: &[u8], budget: u32) -> Result<A
 
 fn claimed(alloc: Global, claim: &Claim) -> Result<Answer, AllocError>
     requires { IsClaim claim.now }
-    ensures { IfOk result (λ answer. answer.status ≡ 0) }
 {
     Ok(Answer {
         lines: write_claim(alloc, claim)?,
@@ -118,9 +108,7 @@ fn claimed(alloc: Global, claim: &Claim) -> Result<Answer, AllocError>
     })
 }
 
-fn over_budget(alloc: Global, budget: u32) -> Result<Answer, AllocError>
-    ensures { IfOk result (λ answer. answer.status ≡ OVER_BUDGET) }
-{
+fn over_budget(alloc: Global, budget: u32) -> Result<Answer, AllocError> {
     Ok(Answer {
         lines: format!(in alloc; "over budget {budget}\n")?,
         status: OVER_BUDGET,

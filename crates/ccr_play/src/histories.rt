@@ -9,18 +9,17 @@
 //! prints the problem of a job, `resolve JOB BUDGET` its proof. `history` prints the history; `copy` goes on with a
 //! copy of it.
 
-ghost use Rattle.std.specs.Prelude.{◌≡◌, ◌≤◌, None};
-ghost use Rattle.ccr_history.specs.History.{no_history};
+ghost use Rattle.std.specs.Prelude.{◌≤◌};
 
 use crate::problems::proof_text;
 use anyhow::{Result, anyhow, bail};
 use ccr_choice::{Problem, write_problem};
-use ccr_history::{History, HistoryFault, Scope, Status, Used, Version};
+use ccr_history::{History, HistoryFault, Scope, Status, Version};
 use ccr_pipeline::{Pipeline, read};
 use ccr_problem::problem_of;
 use ccr_rows::{
-    FromWords, Player, Told, number_of, numbered, pair_of, pin_of, scope_in, split, status_of,
-    version_of,
+    Player, number_of, numbered, pair_of, pairs_of, pin_of, scope_in, split, status_of, text_of,
+    used_places, version_of, versions_of,
 };
 use std::alloc::{AllocError, Global};
 
@@ -95,9 +94,7 @@ impl Player for Histories {
 
 impl Histories {
     /// Nothing seen, and no pipeline.
-    pub(crate) fn new(alloc: Global) -> Histories
-        ensures { (result.history ≡ no_history) × (result.pipeline ≡ None) }
-    {
+    pub(crate) fn new(alloc: Global) -> Histories {
         Histories {
             history: History::new(alloc),
             pipeline: None,
@@ -126,7 +123,7 @@ impl Histories {
             "problem" => self.problem(alloc, first),
             "resolve" => self.resolved(alloc, first, rest),
             "copy" => self.copied(alloc),
-            "history" => Ok(self.history.told(alloc)?),
+            "history" => Ok(text_of(alloc, &self.history)?),
             _ => bail!("no line begins with {kind}"),
         }
     }
@@ -156,7 +153,7 @@ impl Histories {
     }
 
     fn reported(&mut self, alloc: Global, name: &str, text: &str) -> Result<String> {
-        let versions = Vec::<Version>::from_words(alloc, text)?;
+        let versions = versions_of(alloc, text)?;
         self.append(alloc, name, &versions)
     }
 
@@ -171,7 +168,7 @@ impl Histories {
     }
 
     fn tried(&mut self, alloc: Global, name: &str, text: &str) -> Result<String> {
-        let versions = Vec::<Version>::from_words(alloc, text)?;
+        let versions = versions_of(alloc, text)?;
         self.take_back(alloc, name, &versions)
     }
 
@@ -194,7 +191,7 @@ impl Histories {
     }
 
     fn made(&mut self, alloc: Global, job: &str, words: &str) -> Result<String> {
-        let used = Vec::<Used>::from_words(alloc, words)?;
+        let used = used_places(alloc, words)?;
         if !self.history.can_use(&used) {
             bail!("no such places")
         }
@@ -207,7 +204,7 @@ impl Histories {
     fn ended(&mut self, alloc: Global, job: &str, words: &str) -> Result<String> {
         let (number, words) = split(words);
         let (status, words) = split(words);
-        let moved = Vec::<(u32, u32)>::from_words(alloc, words)?;
+        let moved = pairs_of(alloc, words)?;
         if !self.history.can_move(&moved) {
             bail!("no such places")
         }

@@ -8,7 +8,7 @@ use crate::programs::Programs;
 use crate::steps::Steps;
 use crate::stores::Stores;
 use crate::versions::Versions;
-use ccr_rows::{Kind, Plays, Telling};
+use ccr_rows::{Kind, Telling, played};
 use std::io;
 
 /// The kinds that this program plays.
@@ -42,14 +42,14 @@ impl Kind for LineKind {
     fn play(self, rt: &HostRuntime, lines: &str, telling: Telling) -> io::Result<String> {
         let alloc = rt.alloc();
         match self {
-            LineKind::Builds => Builds::new().play(rt, lines, telling),
-            LineKind::Histories => Histories::new(alloc).play(rt, lines, telling),
-            LineKind::Pipelines => Pipelines::new(alloc).play(rt, lines, telling),
-            LineKind::Problems => Problems::new(alloc).play(rt, lines, telling),
-            LineKind::Programs => Programs.play(rt, lines, telling),
-            LineKind::Steps => Steps.play(rt, lines, telling),
-            LineKind::Stores => Stores::new(rt, None).play(rt, lines, telling),
-            LineKind::Versions => Versions.play(rt, lines, telling),
+            LineKind::Builds => played(rt, Builds::new(), lines, telling),
+            LineKind::Histories => played(rt, Histories::new(alloc), lines, telling),
+            LineKind::Pipelines => played(rt, Pipelines::new(alloc), lines, telling),
+            LineKind::Problems => played(rt, Problems::new(alloc), lines, telling),
+            LineKind::Programs => played(rt, Programs, lines, telling),
+            LineKind::Steps => played(rt, Steps, lines, telling),
+            LineKind::Stores => played(rt, Stores::new(rt, None), lines, telling),
+            LineKind::Versions => played(rt, Versions, lines, telling),
         }
     }
 }

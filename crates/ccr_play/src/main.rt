@@ -27,7 +27,6 @@
 //! or unreadable.
 #![tactic(auto)]
 
-mod answers;
 mod builds;
 mod calls;
 mod histories;
@@ -41,9 +40,9 @@ mod stores;
 mod versions;
 
 use calls::{answer_choose, answer_pipeline, answer_resolve};
-use ccr_rows::{Answer, Given, Order, Plays, Telling, check, play_input, tell};
+use ccr_rows::{Answer, Telling, arguments, check, input, play_input, played, tell};
 use kind::LineKind;
-use order::{Call, Whole};
+use order::{Call, Whole, call_of};
 use std::alloc::{AllocError, Global};
 use std::io;
 use std::process::ExitCode;
@@ -52,7 +51,7 @@ use stores::Stores;
 /// What is told of lines of stores on standard input, whose histories are kept in files of this name too.
 fn keep(rt: &HostRuntime, path: &str) -> io::Result<Answer> {
     let stores = Stores::new(rt, Some(path));
-    let lines = stores.play(rt, rt.input()?.as_str(), Telling::Answers)?;
+    let lines = played(rt, stores, input(rt)?.as_str(), Telling::Answers)?;
     Ok(Answer { lines, status: 0 })
 }
 
@@ -67,7 +66,7 @@ fn answer_text(alloc: Global, text: &[u8], whole: Whole) -> Result<Answer, Alloc
 
 /// What is made of standard input.
 fn answer_input(rt: &HostRuntime, whole: Whole) -> io::Result<Answer> {
-    let text = rt.input()?;
+    let text = input(rt)?;
     Ok(answer_text(rt.alloc(), text.as_bytes(), whole)?)
 }
 
@@ -82,8 +81,8 @@ fn answer_of(rt: &HostRuntime, call: Call<'_>) -> io::Result<Answer> {
 
 /// What the program's words ask for; None where they ask for nothing that there is.
 fn answered(rt: &HostRuntime) -> io::Result<Option<Answer>> {
-    let words = rt.arguments()?;
-    match Call::of_words(&words) {
+    let words = arguments(rt)?;
+    match call_of(&words) {
         Some(call) => Ok(Some(answer_of(rt, call)?)),
         None => Ok(None),
     }

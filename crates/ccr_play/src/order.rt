@@ -2,7 +2,7 @@
 ghost use Rattle.std.specs.Prelude.{◌≤◌};
 
 use crate::kind::LineKind;
-use ccr_rows::{Kind, Order, Telling};
+use ccr_rows::{Kind, Telling};
 
 /// A node budget, from 1 to 1,000,000.
 #[derive(Clone, Copy, PartialEq, Eq)]
@@ -50,16 +50,15 @@ fn call_of_two<'a>(first: &'a str, second: &'a str) -> Option<Call<'a>> {
     }
 }
 
-impl<'a> Order<'a> for Call<'a> {
-    fn of_words(words: &'a [String]) -> Option<Call<'a>> {
-        match words {
-            [first, names @ ..] if first.as_str() == "check" => Some(Call::Check(names)),
-            [first] => match first.as_str() {
-                "pipeline" => Some(Call::Text(Whole::Pipeline)),
-                kind => Some(Call::Lines(LineKind::of_name(kind)?, Telling::Answers)),
-            },
-            [first, second] => call_of_two(first.as_str(), second.as_str()),
-            _ => None,
-        }
+/// The call that words ask for.
+pub(crate) fn call_of(words: &[String]) -> Option<Call<'_>> {
+    match words {
+        [first, names @ ..] if first.as_str() == "check" => Some(Call::Check(names)),
+        [first] => match first.as_str() {
+            "pipeline" => Some(Call::Text(Whole::Pipeline)),
+            kind => Some(Call::Lines(LineKind::of_name(kind)?, Telling::Answers)),
+        },
+        [first, second] => call_of_two(first.as_str(), second.as_str()),
+        _ => None,
     }
 }

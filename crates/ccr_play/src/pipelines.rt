@@ -5,7 +5,6 @@
 //! reads the example with a piece of it replaced, where it stands first. `pipeline-parts`, `pipeline-unused` and
 //! `pipeline-inputs` tell more of a pipeline, `task-variables` of a task file. `pipeline-bytes` has the bytes of a text
 //! in hexadecimal, and `pipeline-of COUNT WHAT` makes one with so many of something.
-ghost use Rattle.std.specs.Prelude.{◌≡◌, [], string_bytes};
 
 use ccr_pipeline::{Input, Pipeline, ReadFault, TaskConfig, Wanted, inputs_of, read, read_task};
 use ccr_rows::{Player, split};
@@ -19,9 +18,7 @@ pub(crate) struct Pipelines {
 
 impl Pipelines {
     /// The empty example.
-    pub(crate) fn new(alloc: Global) -> Pipelines
-        ensures { string_bytes result.example ≡ [] }
-    {
+    pub(crate) fn new(alloc: Global) -> Pipelines {
         Pipelines {
             example: String::new(alloc),
         }

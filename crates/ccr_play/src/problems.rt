@@ -6,10 +6,8 @@
 //! `satisfies PLACES / BUILDS` what is said of a choice, `check TEXT` of a proof, and `resolve BUDGET` finds the best
 //! choice. `later PLACES / PLACES` compares two lists, and `preferred PLACES / PLACES` compares them in the order of
 //! the example.
-ghost use Rattle.std.specs.Prelude.{◌≡◌, ◌≤◌, [], string_bytes, IfOk, IfNone};
-ghost use Rattle.ccr_choice.specs.Preference.{order_of};
+ghost use Rattle.std.specs.Prelude.{◌≤◌};
 ghost use Rattle.ccr_proof.specs.Claim.{IsClaim};
-ghost use Rattle.ccr_resolve.specs.NodeBound.{IsBelowNodeBound};
 
 use anyhow::{Result, anyhow};
 use ccr_check::{CheckFault, check, judge};
@@ -48,7 +46,7 @@ fn back(is_same: bool) -> &'static str {
 }
 
 /// Adds numbers, each behind a blank.
-fn push_numbers(text: &mut String, numbers: &[u32]) -> Result<(), AllocError> {
+pub(crate) fn push_numbers(text: &mut String, numbers: &[u32]) -> Result<(), AllocError> {
     for number in numbers {
         write!(text, " {number}")?;
     }
@@ -200,7 +198,6 @@ pub(crate) fn proof_text(
 ) -> Result<Option<String>, AllocError>
     requires least { 1 ≤ budget }
     requires most { budget ≤ 1000000 }
-    ensures { IfOk result (λ told. IfNone told (IsBelowNodeBound (order_of problem.now) problem.now budget)) }
 {
     let index = build_index(alloc, problem)?;
     match resolve(alloc, problem, &index, budget)? {
@@ -252,9 +249,7 @@ fn answered(alloc: Global, example: &str, kind: &str, given: &str) -> Result<Str
 
 impl Problems {
     /// No example.
-    pub(crate) fn new(alloc: Global) -> Problems
-        ensures { string_bytes result.example ≡ [] }
-    {
+    pub(crate) fn new(alloc: Global) -> Problems {
         Problems {
             example: String::new(alloc),
         }

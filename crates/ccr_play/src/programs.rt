@@ -8,16 +8,11 @@ mod replies;
 mod requests;
 mod whole;
 
-use crate::answers::Answers;
 use anyhow::{Result, anyhow};
 use ccr_history::{Object, Version};
-use ccr_rows::{Player, split, version_of};
-use launches::Launching;
-use replies::Reply;
-use requests::Request;
+use ccr_rows::{Player, places, places_by_launcher, split, version_of};
 use serde_json::Value;
 use std::alloc::{AllocError, Global};
-use whole::Whole;
 
 /// Plays lines of programs.
 #[derive(Clone, Copy)]
@@ -25,20 +20,20 @@ pub(crate) struct Programs;
 
 fn answered(alloc: Global, kind: &str, given: &str) -> Result<String> {
     match kind {
-        "request" => Request::Sent.answer(alloc, given),
-        "request-length" => Request::Length.answer(alloc, given),
-        "reply" => Reply::Read.answer(alloc, given),
-        "reply-line" => Reply::Line.answer(alloc, given),
-        "reply-cut" => Reply::Cut.answer(alloc, given),
-        "reply-spoilt" => Reply::Spoilt.answer(alloc, given),
-        "launch" => Launching::Launched.answer(alloc, given),
-        "launcher" => Launching::ByLauncher.answer(alloc, given),
-        "timed" => Launching::Timed.answer(alloc, given),
-        "in-build" => Launching::InBuild.answer(alloc, given),
-        "end" => Launching::Ended.answer(alloc, given),
-        "task-file" => Launching::TaskFile.answer(alloc, given),
-        "task-file-fault" => Launching::TaskFileFault.answer(alloc, given),
-        "build" => Whole.answer(alloc, given),
+        "request" => requests::sent(alloc, given),
+        "request-length" => requests::length(alloc, given),
+        "reply" => replies::read(alloc, given.as_bytes()),
+        "reply-line" => replies::read_line(alloc, given),
+        "reply-cut" => replies::cut(alloc, given.as_bytes()),
+        "reply-spoilt" => replies::spoilt(alloc, given.as_bytes()),
+        "launch" => launches::launched(alloc, &places(alloc)?, given),
+        "launcher" => launches::launched(alloc, &places_by_launcher(alloc)?, given),
+        "timed" => launches::timed(alloc, &places_by_launcher(alloc)?, given),
+        "in-build" => launches::in_build(alloc, given),
+        "end" => launches::ended(alloc, given),
+        "task-file" => launches::task_file(alloc, given),
+        "task-file-fault" => launches::task_file_fault(alloc, given),
+        "build" => whole::played(alloc, given),
         _ => Err(anyhow!("no such line")),
     }
 }

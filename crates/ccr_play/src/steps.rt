@@ -6,15 +6,11 @@
 //! resources a, b and p.
 //! `steps-repeated JOB | VERSIONS | ANSWER` gives each ask that answer, up to the build's end, and tells how often each
 //! was asked.
-ghost use Rattle.std.specs.Prelude.{IfOk};
-ghost use Rattle.ccr_pipeline.specs.Pipelines.{IsPipelineOf, pipeline_data};
-ghost use Rattle.ccr_pipeline.specs.Reading.{IsReading, pipeline_faults};
-ghost use Rattle.ccr_pipeline.specs.Tree.{Text};
 
 use anyhow::{Result, anyhow, bail};
 use ccr_history::{Object, Version};
 use ccr_pipeline::{Job, Pipeline, Variable, inputs_of, read};
-use ccr_rows::{FromWords, Player, answered_of, split};
+use ccr_rows::{Player, answered_of, split, versions_of};
 use ccr_steps::{Answered, Ask, Before, BuildRun, FeedFault, start};
 use std::alloc::{AllocError, Global};
 
@@ -47,10 +43,7 @@ fn text_of(alloc: Global, members: &str) -> Result<String, AllocError> {
 }
 
 /// The pipeline of one job, of which these are the members but its name.
-pub(crate) fn pipeline_of(alloc: Global, members: &str) -> Result<Pipeline>
-    ensures { IfOk result (λ pipeline. (text : Text)
-        × IsReading pipeline_faults text (λ d. IsPipelineOf text d (pipeline_data pipeline))) }
-{
+pub(crate) fn pipeline_of(alloc: Global, members: &str) -> Result<Pipeline> {
     let text = text_of(alloc, members)?;
     Ok(read(alloc, text.as_bytes())?)
 }
@@ -63,33 +56,24 @@ fn started(alloc: Global, job: &Job, versions: &[Version]) -> Result<BuildRun> {
     Ok(start(alloc, job, versions)?)
 }
 
-/// What builds are started of.
-pub(crate) trait Starts {
-    /// A build of it, with versions as JSON.
-    fn build(&self, alloc: Global, versions: &str) -> Result<BuildRun>;
+/// A build of a job, with versions as JSON.
+pub(crate) fn started_of(alloc: Global, job: &Job, versions: &str) -> Result<BuildRun> {
+    let versions = versions_of(alloc, versions)?;
+    started(alloc, job, &versions)
 }
 
-impl Starts for Job {
-    fn build(&self, alloc: Global, versions: &str) -> Result<BuildRun> {
-        let versions = Vec::<Version>::from_words(alloc, versions)?;
-        started(alloc, self, &versions)
-    }
-}
-
-/// A build of the first job.
-impl Starts for Pipeline {
-    fn build(&self, alloc: Global, versions: &str) -> Result<BuildRun> {
-        match self.jobs() {
-            [job, ..] => job.build(alloc, versions),
-            [] => Err(anyhow!("no job")),
-        }
+/// A build of the first job of a pipeline, with versions as JSON.
+pub(crate) fn started_in(alloc: Global, pipeline: &Pipeline, versions: &str) -> Result<BuildRun> {
+    match pipeline.jobs() {
+        [job, ..] => started_of(alloc, job, versions),
+        [] => Err(anyhow!("no job")),
     }
 }
 
 /// A build of the case's job.
 fn build_of(alloc: Global, job: &str, versions: &str) -> Result<BuildRun> {
     let pipeline = pipeline_of(alloc, job)?;
-    pipeline.build(alloc, versions)
+    started_in(alloc, &pipeline, versions)
 }
 
 fn push_params(alloc: Global, text: &mut String, params: Option<&Object>) -> Result<()> {
@@ -157,22 +141,20 @@ fn push_ask(alloc: Global, text: &mut String, ask: &Ask<'_>) -> Result<()> {
     Ok(())
 }
 
-/// What moves versions.
-pub(crate) trait Moves {
-    /// Adds what it moved, each behind this text.
-    fn push_moved(&self, alloc: Global, text: &mut String, before: &str) -> Result<(), AllocError>;
-}
-
-impl Moves for BuildRun {
-    fn push_moved(&self, alloc: Global, text: &mut String, before: &str) -> Result<(), AllocError> {
-        for moved in self.moved() {
-            let resource = moved.resource.as_str();
-            let key = moved.version.key(alloc)?;
-            let key = key.as_str();
-            write!(text, "{before} {resource} {key}")?;
-        }
-        Ok(())
+/// Adds what a build moved, each behind this text.
+pub(crate) fn push_moved(
+    alloc: Global,
+    text: &mut String,
+    before: &str,
+    run: &BuildRun,
+) -> Result<(), AllocError> {
+    for moved in run.moved() {
+        let resource = moved.resource.as_str();
+        let key = moved.version.key(alloc)?;
+        let key = key.as_str();
+        write!(text, "{before} {resource} {key}")?;
     }
+    Ok(())
 }
 
 /// What the build asks now, or how it ended and what it moved.
@@ -184,7 +166,7 @@ fn push_state(alloc: Global, text: &mut String, run: &BuildRun) -> Result<()> {
         bail!("a build that neither asks nor has ended");
     };
     write!(text, "{outcome:?}")?;
-    run.push_moved(alloc, text, ", moved")?;
+    push_moved(alloc, text, ", moved", run)?;
     text.push_str("; ")?;
     Ok(())
 }

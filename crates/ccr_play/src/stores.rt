@@ -14,23 +14,23 @@
 //!
 //! `foreign STATEMENTS` makes a database by these, `spoiled STATEMENTS` one with the six tables and then by these, and
 //! `text TEXT` a file of this text: it is answered how a store refuses it, and whether its bytes are as they were.
-ghost use Rattle.std.specs.Prelude.{◌≡◌, [], string_bytes};
 
 mod files;
 mod foreign;
 mod kept;
+mod lines;
 mod runs;
+mod stops;
+mod stored;
 
-use crate::answers::Answers;
 use anyhow::{Result, bail};
-use ccr_history::History;
-use ccr_rows::{Player, Told, number_of, split};
+use ccr_rows::{Player, number_of, split};
 use ccr_store::Store;
-use foreign::Content;
-use kept::{Changed, Kept};
-use runs::Stop;
-use sqlite::{Alter, Connection, File, FileStore};
+use foreign::{Content, refusal_told};
+use sqlite::{Connection, File, FileStore};
 use std::alloc::{AllocError, Global};
+use stops::{raises_told, stops_told};
+use stored::{held, keep};
 
 /// The lines of the history that is made, and where it is kept besides in memory.
 #[derive(Drop)]
@@ -41,71 +41,6 @@ pub(crate) struct Stores<'r> {
     lines: String,
 }
 
-// ---- what a store keeps and loads. The proof is dear where a function that owns a store also loops or returns early, so
-// these do neither behind it.
-/// All of a history as text: what it holds, and the text of its pipeline.
-fn whole_text(alloc: Global, history: &History) -> Result<String> {
-    let mut whole = history.told(alloc)?;
-    if let Some(bytes) = history.text() {
-        whole.push_str(str::from_utf8(bytes)?)?;
-    }
-    Ok(whole)
-}
-
-/// The history that a store loads, as text.
-fn loaded_text<S: Alter + Drop>(alloc: Global, store: &mut Store<S>) -> Result<String> {
-    match store.load(alloc) {
-        Ok(history) => whole_text(alloc, &history),
-        Err(fault) => Err(fault.into()),
-    }
-}
-
-/// The history in a store, with the store that keeps it.
-fn loaded<S: Alter + Drop>(alloc: Global, store: Store<S>) -> Result<Kept<Store<S>>> {
-    let mut storage = store;
-    match storage.load(alloc) {
-        Ok(history) => Ok(Kept { history, storage }),
-        Err(fault) => Err(fault.into()),
-    }
-}
-
-impl<S: Alter + Drop> Kept<Store<S>> {
-    /// Makes the changes of these lines.
-    fn play_lines(&mut self, alloc: Global, lines: &str) -> Result<()> {
-        let mut pipeline = None;
-        for line in lines.lines() {
-            self.play(alloc, &mut pipeline, line)?;
-        }
-        Ok(())
-    }
-
-    /// Makes the history of these lines, change by change in the store too, and gives it as text. An error where the store
-    /// loads another one.
-    fn played(&mut self, alloc: Global, lines: &str) -> Result<String> {
-        self.play_lines(alloc, lines)?;
-        let made = whole_text(alloc, &self.history)?;
-        let loaded = loaded_text(alloc, &mut self.storage)?;
-        if made.as_str() != loaded.as_str() {
-            bail!("made:\n{made}\nloaded:\n{loaded}")
-        }
-        Ok(made)
-    }
-}
-
-/// The history that a store holds, as text.
-fn held<S: Alter + Drop>(alloc: Global, store: Store<S>) -> Result<String> {
-    let mut store = store;
-    loaded_text(alloc, &mut store)
-}
-
-/// Makes the history of these lines, change by change in a store too, and gives it as text. An error where the store loads
-/// another one.
-fn keep<S: Alter + Drop>(alloc: Global, store: Store<S>, lines: &str) -> Result<String> {
-    let mut kept = loaded(alloc, store)?;
-    kept.played(alloc, lines)
-}
-
-// ---- where it keeps it
 /// The store in the database of this file.
 fn opened(rt: &HostRuntime, path: &str) -> Result<Store<FileStore<File>>> {
     let conn = Connection::open(rt, path)?;
@@ -164,9 +99,7 @@ fn told(rt: &HostRuntime, path: Option<&str>, number: usize, lines: &str) -> Res
 
 impl<'r> Stores<'r> {
     /// No history; histories will be kept in memory, and in files of this name.
-    pub(crate) fn new(rt: &'r HostRuntime, path: Option<&'r str>) -> Stores<'r>
-        ensures { (result.loaded ≡ 0) × (string_bytes result.lines ≡ []) }
-    {
+    pub(crate) fn new(rt: &'r HostRuntime, path: Option<&'r str>) -> Stores<'r> {
         Stores {
             rt,
             path,
@@ -192,14 +125,11 @@ impl<'r> Stores<'r> {
     fn told(&mut self, alloc: Global, line: &str) -> Result<String> {
         match split(line) {
             ("load", "") => self.load(),
-            ("stops", frames) => Stop::Kept(number_of(frames)?).answer(alloc, self.lines.as_str()),
-            ("raises", frames) => Stop::Raised(number_of(frames)?).answer(
-                alloc,
-                self.lines.as_str(),
-            ),
-            ("foreign", statements) => Content::Foreign.answer(alloc, statements),
-            ("spoiled", statements) => Content::Spoiled.answer(alloc, statements),
-            ("text", text) => Content::Text.answer(alloc, text),
+            ("stops", frames) => stops_told(alloc, self.lines.as_str(), number_of(frames)?),
+            ("raises", frames) => raises_told(alloc, self.lines.as_str(), number_of(frames)?),
+            ("foreign", statements) => refusal_told(alloc, Content::Foreign(statements)),
+            ("spoiled", statements) => refusal_told(alloc, Content::Spoiled(statements)),
+            ("text", text) => refusal_told(alloc, Content::Text(text)),
             _ => {
                 self.add(line)?;
                 Ok(String::new(alloc))

@@ -1,9 +1,8 @@
 //! Events, as lines.
 
 use ccr_core::Event;
-use ccr_history::Version;
 use ccr_pipeline::read;
-use ccr_rows::{FromWords, LineFault, answered_of, number_of, numbered, pin_of, split, turn_of};
+use ccr_rows::{LineFault, answered_of, number_of, numbered, pin_of, split, turn_of, versions_of};
 use std::alloc::{AllocError, Global};
 
 fn name_of(alloc: Global, word: &str) -> Result<String, AllocError> {
@@ -13,7 +12,7 @@ fn name_of(alloc: Global, word: &str) -> Result<String, AllocError> {
 /// What a check of a resource printed.
 fn checked(alloc: Global, given: &str) -> Result<Event, LineFault> {
     let (resource, versions) = split(given);
-    let versions = Vec::<Version>::from_words(alloc, versions)?;
+    let versions = versions_of(alloc, versions)?;
     Ok(Event::Checked(name_of(alloc, resource)?, versions))
 }
 
@@ -63,28 +62,21 @@ fn enable(alloc: Global, given: &str) -> Result<Event, LineFault> {
     Ok(Event::Enable(resource, place))
 }
 
-/// What a line tells.
-pub(crate) trait FromLine: Sized {
-    /// What a line tells by its first word and by what stands behind it.
-    fn from_line(alloc: Global, kind: &str, given: &str) -> Result<Self, LineFault>;
-}
-
-impl FromLine for Event {
-    fn from_line(alloc: Global, kind: &str, given: &str) -> Result<Event, LineFault> {
-        match kind {
-            "pipeline" => Ok(Event::SetPipeline(read(alloc, given.as_bytes())?)),
-            "checked" => checked(alloc, given),
-            "fill" => filled(alloc, given),
-            "schedule" => Ok(Event::Schedule(name_of(alloc, given)?)),
-            "trigger" => Ok(Event::Trigger(name_of(alloc, given)?)),
-            "answer" => answer(alloc, given),
-            "abort" => abort(alloc, given),
-            "pin" => pin(alloc, given),
-            "unpin" => Ok(Event::Unpin(name_of(alloc, given)?)),
-            "disable" => disable(alloc, given),
-            "enable" => enable(alloc, given),
-            "restart" => Ok(Event::Restart),
-            _ => Err(LineFault::NoSuchLine),
-        }
+/// The event that a line tells by its first word and by what stands behind it.
+pub(crate) fn event_of(alloc: Global, kind: &str, given: &str) -> Result<Event, LineFault> {
+    match kind {
+        "pipeline" => Ok(Event::SetPipeline(read(alloc, given.as_bytes())?)),
+        "checked" => checked(alloc, given),
+        "fill" => filled(alloc, given),
+        "schedule" => Ok(Event::Schedule(name_of(alloc, given)?)),
+        "trigger" => Ok(Event::Trigger(name_of(alloc, given)?)),
+        "answer" => answer(alloc, given),
+        "abort" => abort(alloc, given),
+        "pin" => pin(alloc, given),
+        "unpin" => Ok(Event::Unpin(name_of(alloc, given)?)),
+        "disable" => disable(alloc, given),
+        "enable" => enable(alloc, given),
+        "restart" => Ok(Event::Restart),
+        _ => Err(LineFault::NoSuchLine),
     }
 }

@@ -8,15 +8,15 @@
 //!
 //! `watched BUDGET` begins a core so, too, and after each event in it the index that it keeps for each job is compared with one
 //! that is built anew: where they don't answer alike, the event's answer has a second line.
-ghost use Rattle.std.specs.Prelude.{◌≡◌, ◌≤◌, None, false};
+ghost use Rattle.std.specs.Prelude.{◌≤◌};
 ghost use Rattle.ccr_proof.specs.declared.proof.TheConstants.{MOST_NODES};
 
 mod index;
 
-use crate::event::FromLine;
-use crate::events::index::Indexed;
-use crate::reply::{InWords, MOST_BYTES};
-use crate::show::Held;
+use crate::event::event_of;
+use crate::events::index::{first_other, index_text};
+use crate::reply::{MOST_BYTES, fault_name, push_reply};
+use crate::show::{builds_text, tables_text, wants_text};
 use ccr_core::{Core, CoreFault, Event};
 use ccr_history::History;
 use ccr_rows::{LineFault, Player, number_of, split};
@@ -44,9 +44,9 @@ fn new_core(alloc: Global, budget: u32) -> Result<Core, LineFault>
 fn step(alloc: Global, core: &mut Core, event: Event) -> Result<String, LineFault> {
     let mut text = String::with_capacity(alloc, MOST_BYTES)?;
     match core.step(alloc, event) {
-        Ok((reply, _)) => reply.push_words(&mut text)?,
+        Ok((reply, _)) => push_reply(&mut text, reply)?,
         Err(CoreFault::NoMemory) => return Err(LineFault::NoMemory),
-        Err(fault) => fault.push_words(&mut text)?,
+        Err(fault) => text.push_str(fault_name(fault))?,
     }
     Ok(text)
 }
@@ -55,14 +55,14 @@ fn step(alloc: Global, core: &mut Core, event: Event) -> Result<String, LineFaul
 fn answered(alloc: Global, core: &mut Core, line: &str) -> Result<String, LineFault> {
     let (kind, given) = split(line);
     match kind {
-        "builds" => Ok(core.builds_text(alloc)?),
-        "tables" => Ok(core.tables_text(alloc)?),
+        "builds" => Ok(builds_text(alloc, core.history())?),
+        "tables" => Ok(tables_text(alloc, core.history())?),
         "wants" => {
             let (job, number) = split(given);
-            Ok(core.wants_text(alloc, job, number_of(number)?)?)
+            Ok(wants_text(alloc, core, job, number_of(number)?)?)
         }
-        "index" => Ok(core.index_text(alloc, given)?),
-        _ => step(alloc, core, Event::from_line(alloc, kind, given)?),
+        "index" => Ok(index_text(alloc, core, given)?),
+        _ => step(alloc, core, event_of(alloc, kind, given)?),
     }
 }
 
@@ -70,9 +70,9 @@ fn answered(alloc: Global, core: &mut Core, line: &str) -> Result<String, LineFa
 /// been done: where memory is refused, the indexes are compared once more.
 fn watched(alloc: Global, core: &Core, answer: String) -> Result<String, AllocError> {
     let mut answer = answer;
-    let other = match core.first_other(alloc) {
+    let other = match first_other(alloc, core) {
         Ok(other) => other,
-        Err(_) => core.first_other(alloc)?,
+        Err(_) => first_other(alloc, core)?,
     };
     if let Some(job) = other {
         write!(answer, "\nthe index of {job} differs")?;
@@ -82,9 +82,7 @@ fn watched(alloc: Global, core: &Core, answer: String) -> Result<String, AllocEr
 
 impl Events {
     /// No core.
-    pub(crate) fn new() -> Events
-        ensures { (result.core ≡ None) × (result.is_watched ≡ false) }
-    {
+    pub(crate) fn new() -> Events {
         Events {
             core: None,
             is_watched: false,

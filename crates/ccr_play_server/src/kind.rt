@@ -2,7 +2,7 @@
 
 use crate::events::Events;
 use crate::servers::Servers;
-use ccr_rows::{Kind, Plays, Telling};
+use ccr_rows::{Kind, Telling, played};
 use std::io;
 
 /// The kinds that this program plays.
@@ -23,8 +23,8 @@ impl Kind for LineKind {
 
     fn play(self, rt: &HostRuntime, lines: &str, telling: Telling) -> io::Result<String> {
         match self {
-            LineKind::Events => Events::new().play(rt, lines, telling),
-            LineKind::Servers => Servers::new(rt.alloc())?.play(rt, lines, telling),
+            LineKind::Events => played(rt, Events::new(), lines, telling),
+            LineKind::Servers => played(rt, Servers::new(rt.alloc())?, lines, telling),
         }
     }
 }

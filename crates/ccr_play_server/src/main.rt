@@ -22,9 +22,9 @@ mod reply;
 mod servers;
 mod show;
 
-use ccr_rows::{Answer, Given, Order, check, play_input, tell};
+use ccr_rows::{Answer, arguments, check, play_input, tell};
 use kind::LineKind;
-use order::Call;
+use order::{Call, call_of};
 use std::io;
 use std::process::ExitCode;
 
@@ -37,8 +37,8 @@ fn answer_of(rt: &HostRuntime, call: Call<'_>) -> io::Result<Answer> {
 
 /// What the program's words ask for; None where they ask for nothing that there is.
 fn answered(rt: &HostRuntime) -> io::Result<Option<Answer>> {
-    let words = rt.arguments()?;
-    match Call::of_words(&words) {
+    let words = arguments(rt)?;
+    match call_of(&words) {
         Some(call) => Ok(Some(answer_of(rt, call)?)),
         None => Ok(None),
     }

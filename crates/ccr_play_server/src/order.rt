@@ -1,7 +1,7 @@
 //! What the program's words ask for.
 
 use crate::kind::LineKind;
-use ccr_rows::{Kind, Order, Telling};
+use ccr_rows::{Kind, Telling};
 
 /// What the program does.
 #[derive(Clone, Copy)]
@@ -10,16 +10,15 @@ pub(crate) enum Call<'a> {
     Lines(LineKind, Telling),
 }
 
-impl<'a> Order<'a> for Call<'a> {
-    fn of_words(words: &'a [String]) -> Option<Call<'a>> {
-        match words {
-            [first, names @ ..] if first.as_str() == "check" => Some(Call::Check(names)),
-            [kind] => Some(Call::Lines(LineKind::of_name(kind.as_str())?, Telling::Answers)),
-            [kind, second] if second.as_str() == "--timed" => Some(Call::Lines(
-                LineKind::of_name(kind.as_str())?,
-                Telling::Times,
-            )),
-            _ => None,
-        }
+/// The call that words ask for.
+pub(crate) fn call_of(words: &[String]) -> Option<Call<'_>> {
+    match words {
+        [first, names @ ..] if first.as_str() == "check" => Some(Call::Check(names)),
+        [kind] => Some(Call::Lines(LineKind::of_name(kind.as_str())?, Telling::Answers)),
+        [kind, second] if second.as_str() == "--timed" => Some(Call::Lines(
+            LineKind::of_name(kind.as_str())?,
+            Telling::Times,
+        )),
+        _ => None,
     }
 }

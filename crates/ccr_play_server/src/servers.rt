@@ -13,7 +13,6 @@
 //! history that is empty otherwise, types in `/t` and builds in `/w`. Then `round`, `turn`, and the commands of
 //! `ccr_run`, of which `set-pipeline` and tasks read the script's files. `--json` stands before a command's other
 //! words.
-ghost use Rattle.std.specs.Prelude.{◌≡◌, None, IfOk, false};
 
 mod aside;
 mod script;
@@ -31,10 +30,7 @@ use ccr_serve::ServeFault;
 use script::Script;
 use serving::Serving;
 use std::alloc::{AllocError, Global};
-use std::cell::Cell;
 use std::mem;
-use std::rc::Rc;
-use std::string::FromUtf8Error;
 use tape::Tape;
 
 /// A script, the server that was opened last, and what is printed.
@@ -208,45 +204,48 @@ fn printed(
     status
 }
 
-/// A tape on which nothing is written.
-fn empty_tape(alloc: Global) -> Result<Tape, AllocError> {
-    let bytes = Rc::new(alloc, Cell::new(Vec::new(alloc)))?;
-    Ok(Tape { alloc, bytes })
-}
-
-/// What was written on a tape; then nothing is.
-fn taken(tape: &Tape) -> Result<String, FromUtf8Error> {
-    String::from_utf8(tape.bytes.replace(Vec::new(tape.alloc)))
-}
-
 impl Servers {
     /// An empty script, and no server.
-    pub(crate) fn new(alloc: Global) -> Result<Servers, AllocError>
-        ensures { IfOk result (λ servers. (servers.serving ≡ None) × (servers.has_notes ≡ false)) }
-    {
+    pub(crate) fn new(alloc: Global) -> Result<Servers, AllocError> {
         Ok(Servers {
             script: Script::new(alloc),
             serving: None,
-            tape: empty_tape(alloc)?,
+            tape: Tape::new(alloc)?,
             has_notes: false,
         })
+    }
+
+    /// Adds to the script what a line says; false where it says nothing of one.
+    fn add(&mut self, alloc: Global, kind: &str, words: &str) -> Result<bool> {
+        match kind {
+            "ends" => self.script.add_ends(alloc, words)?,
+            "sights" => self.script.add_sights(alloc, words)?,
+            "file" => self.script.add_file(alloc, words)?,
+            "folders" => self.script.add_folders(number_of(words), true)?,
+            "no-folders" => self.script.add_folders(number_of(words), false)?,
+            "commits" => self.script.fail_after(words)?,
+            "runs" => self.script.add_builds(alloc, words)?,
+            "notes" => self.script.has_notes = true,
+            "launcher" => self.script.has_launcher = true,
+            _ => return Ok(false),
+        }
+        Ok(true)
     }
 
     /// What prints on the tape, and tells there if that was asked for.
     fn out(&self, alloc: Global) -> Result<Printed<Tape, Aside>, AllocError> {
         let tape = if self.has_notes {
-            Some(self.tape.clone()?)
+            Some(self.tape.another()?)
         } else {
             None
         };
-        Ok(Printed::new(alloc, self.tape.clone()?, Aside { tape }))
+        Ok(Printed::new(alloc, self.tape.another()?, Aside { tape }))
     }
 
     /// Opens a server over the script; another script begins.
     fn open(&mut self, alloc: Global) -> Result<u8, ServeFault> {
         self.has_notes = self.script.has_notes;
-        let tape: Result<Tape, AllocError> = self.tape.clone();
-        let (Ok(tape), Ok(mut out)) = (tape, self.out(alloc)) else {
+        let (Ok(tape), Ok(mut out)) = (self.tape.another(), self.out(alloc)) else {
             return Err(ServeFault::NoMemory);
         };
         let script = mem::replace(&mut self.script, Script::new(alloc));
@@ -274,11 +273,11 @@ impl Servers {
 
     fn played(&mut self, alloc: Global, line: &str) -> Result<String> {
         let (kind, words) = split(line);
-        if self.script.add(alloc, kind, words)? {
+        if self.add(alloc, kind, words)? {
             return Ok(String::new(alloc));
         }
         let end = self.served(alloc, kind, words);
-        let mut text = taken(&self.tape)?;
+        let mut text = self.tape.text()?;
         push_end(&mut text, end)?;
         Ok(text)
     }

@@ -3,7 +3,7 @@
 use ccr_core::Core;
 use ccr_history::{BuildRef, History, Scope, Version};
 use ccr_rows::json::{push_comma, push_text};
-use ccr_rows::{Asked, Told, status_name};
+use ccr_rows::{ask_text, status_name};
 use std::alloc::{AllocError, Global};
 
 fn push_used(alloc: Global, out: &mut String, build: &BuildRef<'_>) -> Result<(), AllocError> {
@@ -50,6 +50,13 @@ fn push_builds(alloc: Global, out: &mut String, history: &History) -> Result<(),
     out.push_str("]")
 }
 
+/// The builds of a history, in order of making.
+pub(crate) fn builds_text(alloc: Global, history: &History) -> Result<String, AllocError> {
+    let mut text = String::from_str(alloc, "[")?;
+    push_builds(alloc, &mut text, history)?;
+    Ok(text)
+}
+
 fn push_versions(alloc: Global, out: &mut String, versions: &[Version]) -> Result<(), AllocError> {
     for (i, version) in versions.iter().enumerate() {
         push_comma(out, i)?;
@@ -85,39 +92,22 @@ fn push_tables(alloc: Global, out: &mut String, history: &History) -> Result<(),
     out.push_str("]")
 }
 
-/// What is shown of what is held.
-pub(crate) trait Held {
-    /// The builds, in order of making.
-    fn builds_text(&self, alloc: Global) -> Result<String, AllocError>;
-
-    /// The tables, in order of their scopes' numbers.
-    fn tables_text(&self, alloc: Global) -> Result<String, AllocError>;
-
-    /// What a build asks and at which turn; `null` where it doesn't run.
-    fn wants_text(&self, alloc: Global, job: &str, number: u32) -> Result<String, AllocError>;
+/// The tables of a history, in order of their scopes' numbers.
+pub(crate) fn tables_text(alloc: Global, history: &History) -> Result<String, AllocError> {
+    let mut text = String::from_str(alloc, "[")?;
+    push_tables(alloc, &mut text, history)?;
+    Ok(text)
 }
 
-impl Held for Core {
-    fn builds_text(&self, alloc: Global) -> Result<String, AllocError> {
-        let mut text = String::from_str(alloc, "[")?;
-        push_builds(alloc, &mut text, self.history())?;
-        Ok(text)
-    }
-
-    fn tables_text(&self, alloc: Global) -> Result<String, AllocError> {
-        let mut text = String::from_str(alloc, "[")?;
-        push_tables(alloc, &mut text, self.history())?;
-        Ok(text)
-    }
-
-    fn wants_text(&self, alloc: Global, job: &str, number: u32) -> Result<String, AllocError> {
-        match self.wants(job, number) {
-            Some((turn, ask)) => Asked {
-                ask,
-                turn: Some(turn),
-            }
-            .told(alloc),
-            None => String::from_str(alloc, "null"),
-        }
+/// What a build asks and at which turn; `null` where it doesn't run.
+pub(crate) fn wants_text(
+    alloc: Global,
+    core: &Core,
+    job: &str,
+    number: u32,
+) -> Result<String, AllocError> {
+    match core.wants(job, number) {
+        Some((turn, ask)) => ask_text(alloc, &ask, Some(turn)),
+        None => String::from_str(alloc, "null"),
     }
 }

@@ -1,6 +1,4 @@
 //! Answers to what a build asked, as words.
-ghost use Rattle.std.specs.Prelude.{◌≡◌, IfOk};
-ghost use Rattle.ccr_rows.specs.Words.{answer_word};
 
 use crate::fault::LineFault;
 use crate::words::version_of;
@@ -9,9 +7,7 @@ use ccr_steps::Answered;
 use std::alloc::Global;
 
 /// The answer of a word: `done`, `failed`, `errored`, `aborted`, `pushed` with a version, or `config` with a task's.
-pub fn answered_of(alloc: Global, kind: &str, given: &str) -> Result<Answered, LineFault>
-    ensures { IfOk result (λ answered. kind.now ≡ answer_word answered) }
-{
+pub fn answered_of(alloc: Global, kind: &str, given: &str) -> Result<Answered, LineFault> {
     match kind {
         "done" => Ok(Answered::Done),
         "failed" => Ok(Answered::Failed),

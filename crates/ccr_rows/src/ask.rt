@@ -1,30 +1,10 @@
 //! Asks, as JSON. The members of an object are in the order of their keys.
 
-use crate::json::{push_comma, push_text};
-use crate::told::Told;
+use crate::json::{push_comma, push_text, push_texts};
 use ccr_history::{Object, Version};
 use ccr_pipeline::{TaskConfig, TaskInput, Variable};
 use ccr_steps::Ask;
 use std::alloc::{AllocError, Global};
-
-/// What a build asks, with the turn if it is to be told.
-#[derive(Clone, Copy)]
-pub struct Asked<'a> {
-    /// What it asks.
-    pub ask: Ask<'a>,
-    /// At which turn.
-    pub turn: Option<u64>,
-}
-
-/// Adds texts as a list.
-fn push_texts(alloc: Global, out: &mut String, texts: &[String]) -> Result<(), AllocError> {
-    out.push_str("[")?;
-    for (i, text) in texts.iter().enumerate() {
-        push_comma(out, i)?;
-        push_text(alloc, out, "", text.as_str())?;
-    }
-    out.push_str("]")
-}
 
 /// Adds variables as an object.
 fn push_variables(
@@ -164,12 +144,10 @@ fn push_ask(
     }
 }
 
-/// An object.
-impl Told for Asked<'_> {
-    fn told(&self, alloc: Global) -> Result<String, AllocError> {
-        let mut text = String::new(alloc);
-        push_ask(alloc, &mut text, &self.ask, self.turn)?;
-        text.push_str("}")?;
-        Ok(text)
-    }
+/// What a build asks, as an object, with the turn if it is to be told.
+pub fn ask_text(alloc: Global, ask: &Ask<'_>, turn: Option<u64>) -> Result<String, AllocError> {
+    let mut text = String::new(alloc);
+    push_ask(alloc, &mut text, ask, turn)?;
+    text.push_str("}")?;
+    Ok(text)
 }

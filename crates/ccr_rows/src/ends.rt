@@ -1,9 +1,5 @@
 //! How programs end, what folders answer, and where they lie, as words.
-ghost use Rattle.std.specs.Prelude.{◌≡◌, Some, None, IfOk, codes};
-ghost use Rattle.ccr_rows.specs.Words.{fault_named};
-ghost use Rattle.ccr_task.specs.Places.{places_data};
 
-use crate::from_words::FromWords;
 use anyhow::Result;
 use ccr_process::Ended;
 use ccr_task::{Places, ShelfFault};
@@ -11,10 +7,7 @@ use std::alloc::{AllocError, Global};
 use std::collections::VecDeque;
 
 /// Types in `/t`, builds in `/w`.
-pub fn places(alloc: Global) -> Result<Places, AllocError>
-    ensures { IfOk result (λ places. places_data places
-        ≡ record { types = codes "/t"; work = codes "/w"; launcher = None }) }
-{
+pub fn places(alloc: Global) -> Result<Places, AllocError> {
     Ok(Places {
         types: String::from_str(alloc, "/t")?,
         work: String::from_str(alloc, "/w")?,
@@ -23,10 +16,7 @@ pub fn places(alloc: Global) -> Result<Places, AllocError>
 }
 
 /// The same, with the launcher `/l`.
-pub fn places_by_launcher(alloc: Global) -> Result<Places, AllocError>
-    ensures { IfOk result (λ places. places_data places
-        ≡ record { types = codes "/t"; work = codes "/w"; launcher = Some (codes "/l") }) }
-{
+pub fn places_by_launcher(alloc: Global) -> Result<Places, AllocError> {
     let mut places = places(alloc)?;
     places.launcher = Some(String::from_str(alloc, "/l")?);
     Ok(places)
@@ -63,39 +53,29 @@ fn exit_of(alloc: Global, word: &str) -> Result<Ended> {
 }
 
 /// The end of the words `STATUS OUTPUT` or `STATUS:OUTPUT`, or of a word for another end.
-impl FromWords for Ended {
-    type Err = anyhow::Error;
-
-    fn from_words(alloc: Global, words: &str) -> Result<Ended> {
-        Ok(match words {
-            "killed" => Ended::Killed(9),
-            "not-started" => Ended::NotStarted,
-            "input-fault" => Ended::InputFault,
-            "read-fault" => Ended::ReadFault,
-            "too-long" => Ended::OutputTooLong,
-            "no-memory" => Ended::NoMemory,
-            _ => exit_of(alloc, words)?,
-        })
-    }
+pub fn end_of(alloc: Global, words: &str) -> Result<Ended> {
+    Ok(match words {
+        "killed" => Ended::Killed(9),
+        "not-started" => Ended::NotStarted,
+        "input-fault" => Ended::InputFault,
+        "read-fault" => Ended::ReadFault,
+        "too-long" => Ended::OutputTooLong,
+        "no-memory" => Ended::NoMemory,
+        _ => exit_of(alloc, words)?,
+    })
 }
 
 /// The ends of words with blanks between.
-impl FromWords for VecDeque<Ended> {
-    type Err = anyhow::Error;
-
-    fn from_words(alloc: Global, words: &str) -> Result<VecDeque<Ended>> {
-        let mut ends = VecDeque::new(alloc);
-        for word in words.split_whitespace() {
-            ends.push_back(Ended::from_words(alloc, word)?)?;
-        }
-        Ok(ends)
+pub fn ends_of(alloc: Global, words: &str) -> Result<VecDeque<Ended>> {
+    let mut ends = VecDeque::new(alloc);
+    for word in words.split_whitespace() {
+        ends.push_back(end_of(alloc, word)?)?;
     }
+    Ok(ends)
 }
 
 /// The fault of a word.
-pub fn fault_of(word: &str) -> ShelfFault
-    ensures { result ≡ fault_named word.now }
-{
+pub fn fault_of(word: &str) -> ShelfFault {
     match word {
         "too-long" => ShelfFault::TooLong,
         "no-memory" => ShelfFault::NoMemory,
@@ -104,18 +84,14 @@ pub fn fault_of(word: &str) -> ShelfFault
 }
 
 /// Whether folders are there, of words: `there`, `absent`, or a fault.
-impl FromWords for VecDeque<Result<bool, ShelfFault>> {
-    type Err = anyhow::Error;
-
-    fn from_words(alloc: Global, words: &str) -> Result<VecDeque<Result<bool, ShelfFault>>> {
-        let mut sights = VecDeque::new(alloc);
-        for word in words.split_whitespace() {
-            sights.push_back(match word {
-                "there" => Ok(true),
-                "absent" => Ok(false),
-                _ => Err(fault_of(word)),
-            })?;
-        }
-        Ok(sights)
+pub fn sights_of(alloc: Global, words: &str) -> Result<VecDeque<Result<bool, ShelfFault>>> {
+    let mut sights = VecDeque::new(alloc);
+    for word in words.split_whitespace() {
+        sights.push_back(match word {
+            "there" => Ok(true),
+            "absent" => Ok(false),
+            _ => Err(fault_of(word)),
+        })?;
     }
+    Ok(sights)
 }

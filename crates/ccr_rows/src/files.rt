@@ -1,5 +1,4 @@
 //! Files of lines with their answers: whether the lines are answered so.
-ghost use Rattle.std.specs.Prelude.{◌≤◌, IfOk};
 
 use crate::play::{Telling, is_played};
 use crate::program::Answer;
@@ -17,9 +16,7 @@ fn first_difference(stored: &str, told: &str) -> usize {
 }
 
 /// The line that tells of a file how many of its lines were played and are answered as stored, or where the first isn't.
-fn compared(alloc: Global, name: &str, stored: &str, told: &str) -> Result<Answer, AllocError>
-    ensures { IfOk result (λ answer. answer.status ≤ 1) }
-{
+fn compared(alloc: Global, name: &str, stored: &str, told: &str) -> Result<Answer, AllocError> {
     if stored == told {
         let count = stored.lines().filter(|line| is_played(line)).count();
         let lines = format!(in alloc; "{name}: {count} lines, answered as stored\n")?;
@@ -49,9 +46,7 @@ fn kind_of_file<K: Kind>(name: &str) -> Option<K> {
 }
 
 /// Plays the lines of a file, and compares what is told with the file.
-fn check_file<K: Kind>(rt: &HostRuntime, name: &str) -> io::Result<Answer>
-    ensures { IfOk result (λ answer. answer.status ≤ 1) }
-{
+fn check_file<K: Kind>(rt: &HostRuntime, name: &str) -> io::Result<Answer> {
     let Some(kind) = kind_of_file::<K>(name) else {
         return Ok(Answer {
             lines: format!(in rt.alloc(); "{name}: no such kind\n")?,
@@ -64,10 +59,7 @@ fn check_file<K: Kind>(rt: &HostRuntime, name: &str) -> io::Result<Answer>
 }
 
 /// Checks a file, and adds what is told of it.
-fn push_checked<K: Kind>(rt: &HostRuntime, all: &mut Answer, name: &str) -> io::Result<()>
-    requires { all.old.status ≤ 1 }
-    ensures { all.new.status ≤ 1 }
-{
+fn push_checked<K: Kind>(rt: &HostRuntime, all: &mut Answer, name: &str) -> io::Result<()> {
     let found = check_file::<K>(rt, name)?;
     all.status = all.status.max(found.status);
     Ok(all.lines.push_str(found.lines.as_str())?)
@@ -75,9 +67,7 @@ fn push_checked<K: Kind>(rt: &HostRuntime, all: &mut Answer, name: &str) -> io::
 
 /// Checks each of these files: a line for each, and status 1 where an answer isn't the stored one. An error where a file can't be
 /// read.
-pub fn check<K: Kind>(rt: &HostRuntime, names: &[String]) -> io::Result<Answer>
-    ensures { IfOk result (λ answer. answer.status ≤ 1) }
-{
+pub fn check<K: Kind>(rt: &HostRuntime, names: &[String]) -> io::Result<Answer> {
     let mut all = Answer {
         lines: String::new(rt.alloc()),
         status: 0,

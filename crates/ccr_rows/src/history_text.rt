@@ -1,6 +1,5 @@
 //! A history as text.
 
-use crate::told::Told;
 use crate::words::status_name;
 use ccr_history::{BuildRef, History, Version};
 use std::alloc::{AllocError, Global};
@@ -60,20 +59,18 @@ fn push_pins(alloc: Global, text: &mut String, history: &History) -> Result<(), 
 }
 
 /// The scopes with their versions, the builds, the pins and the length of the pipeline's text.
-impl Told for History {
-    fn told(&self, alloc: Global) -> Result<String, AllocError> {
-        let mut text = String::new(alloc);
-        push_tables(alloc, &mut text, self)?;
-        for i in 0..self.build_count() {
-            if let Some(build) = self.build_at(i) {
-                push_build(&mut text, &build)?;
-            }
+pub fn text_of(alloc: Global, history: &History) -> Result<String, AllocError> {
+    let mut text = String::new(alloc);
+    push_tables(alloc, &mut text, history)?;
+    for i in 0..history.build_count() {
+        if let Some(build) = history.build_at(i) {
+            push_build(&mut text, &build)?;
         }
-        push_pins(alloc, &mut text, self)?;
-        if let Some(set) = self.text() {
-            let bytes = set.len();
-            write!(text, "text of {bytes} bytes\n")?;
-        }
-        Ok(text)
     }
+    push_pins(alloc, &mut text, history)?;
+    if let Some(set) = history.text() {
+        let bytes = set.len();
+        write!(text, "text of {bytes} bytes\n")?;
+    }
+    Ok(text)
 }

@@ -1,6 +1,4 @@
 //! Lines are played, and each is told with its answer.
-ghost use Rattle.std.specs.Prelude.{◌≡◌, ◌==◌, ◌&&◌, not, nat_eq, length, codes};
-ghost use Rattle.std.specs.List.{starts_with};
 
 use std::alloc::{AllocError, Global};
 use std::io;
@@ -39,10 +37,7 @@ fn answer_of<P: Player>(alloc: Global, player: &mut P, line: &str) -> Result<Str
 }
 
 /// Whether a line is played: it isn't empty, a comment, or an answer.
-pub(crate) fn is_played(line: &str) -> bool
-    ensures { result ≡ (not (length line.now == 0) && not (starts_with nat_eq line.now (codes "#"))
-        && not (starts_with nat_eq line.now (codes "> "))) }
-{
+pub(crate) fn is_played(line: &str) -> bool {
     !line.is_empty() && !line.starts_with("#") && !line.starts_with(MARK)
 }
 
@@ -100,17 +95,15 @@ fn push_all<P: Player>(
     Ok(())
 }
 
-/// What plays whole texts: each player.
-pub trait Plays {
-    /// What is told of the lines of a text. The player is let go behind them.
-    fn play(self, rt: &HostRuntime, lines: &str, telling: Telling) -> io::Result<String>;
-}
-
-impl<P: Player + Drop> Plays for P {
-    fn play(self, rt: &HostRuntime, lines: &str, telling: Telling) -> io::Result<String> {
-        let mut player = self;
-        let mut text = String::new(rt.alloc());
-        push_all(rt, &mut text, &mut player, lines, telling)?;
-        Ok(text)
-    }
+/// What is told of the lines of a text, by a player that is let go behind them.
+pub fn played<P: Player + Drop>(
+    rt: &HostRuntime,
+    player: P,
+    lines: &str,
+    telling: Telling,
+) -> io::Result<String> {
+    let mut player = player;
+    let mut text = String::new(rt.alloc());
+    push_all(rt, &mut text, &mut player, lines, telling)?;
+    Ok(text)
 }

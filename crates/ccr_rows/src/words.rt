@@ -1,17 +1,8 @@
 //! What the words of a line stand for.
-ghost use Rattle.std.specs.Prelude.{◌≡◌, ◌≢◌, ◌+◌, ◌++◌, [], ◌∷◌, Some, length, option_map, option_and_then, IfOk, OnOk};
-ghost use Rattle.std.specs.Str.Parse.{ParsesUnsigned};
-ghost use Rattle.serde_json.specs.Read.{read as read_text};
-ghost use Rattle.serde_json.specs.View.{view};
-ghost use Rattle.ccr_history.specs.TextMap.{text_map_of};
+ghost use Rattle.std.specs.Prelude.{◌≢◌, IfOk};
 ghost use Rattle.ccr_history.specs.declared.build.Status.TheVariants.{Running};
-ghost use Rattle.ccr_pipeline.specs.JobData.{scope_of};
-ghost use Rattle.ccr_pipeline.specs.Named.{resource_of};
-ghost use Rattle.ccr_pipeline.specs.Pipelines.{pipeline_data};
-ghost use Rattle.ccr_rows.specs.Words.{before, behind, number_in, numbered_text, status_word, outcome_word};
 
 use crate::fault::LineFault;
-use crate::from_words::FromWords;
 use ccr_history::{HistoryFault, Pin, Scope, Status, Used, Version};
 use ccr_pipeline::Pipeline;
 use ccr_steps::Outcome;
@@ -19,34 +10,22 @@ use serde_json::Value;
 use std::alloc::{AllocError, Global};
 
 /// The first word, and what stands behind the blank after it.
-pub fn split(text: &str) -> (&str, &str)
-    ensures first { result.0.now ≡ before 32 text.now }
-    ensures rest { result.1.now ≡ behind 32 text.now }
-{
-    match text.split_once(' ') {
-        Some(halves) => halves,
-        None => (text, ""),
-    }
+pub fn split(text: &str) -> (&str, &str) {
+    text.split_once(" ").unwrap_or((text, ""))
 }
 
 /// The whole number that a word spells.
-pub fn number_of(word: &str) -> Result<u32, LineFault>
-    ensures { ParsesUnsigned 32 10 word.now result }
-{
+pub fn number_of(word: &str) -> Result<u32, LineFault> {
     word.parse::<u32>().ok().ok_or(LineFault::NotANumber)
 }
 
 /// The turn that a word spells.
-pub fn turn_of(word: &str) -> Result<u64, LineFault>
-    ensures { ParsesUnsigned 64 10 word.now result }
-{
+pub fn turn_of(word: &str) -> Result<u64, LineFault> {
     word.parse::<u64>().ok().ok_or(LineFault::NotANumber)
 }
 
 /// The value of a JSON text, if it is one.
-pub fn value_of(alloc: Global, text: &str) -> Result<Option<Value>, AllocError>
-    ensures { IfOk result (λ value. option_map view value ≡ read_text text.now) }
-{
+pub fn value_of(alloc: Global, text: &str) -> Result<Option<Value>, AllocError> {
     match Value::from_str(alloc, text) {
         Ok(value) => Ok(Some(value)),
         Err(error) if error.is_memory() => Err(AllocError),
@@ -54,9 +33,7 @@ pub fn value_of(alloc: Global, text: &str) -> Result<Option<Value>, AllocError>
     }
 }
 
-fn version_in(alloc: Global, value: &Value) -> Result<Version, LineFault>
-    ensures { IfOk result (λ version. text_map_of (view value.now) ≡ Some version) }
-{
+fn version_in(alloc: Global, value: &Value) -> Result<Version, LineFault> {
     match Version::from_value(alloc, value) {
         Ok(version) => Ok(version),
         Err(HistoryFault::NoMemory) => Err(LineFault::NoMemory),
@@ -65,9 +42,7 @@ fn version_in(alloc: Global, value: &Value) -> Result<Version, LineFault>
 }
 
 /// The version of a JSON text.
-pub fn version_of(alloc: Global, text: &str) -> Result<Version, LineFault>
-    ensures { IfOk result (λ version. option_and_then text_map_of (read_text text.now) ≡ Some version) }
-{
+pub fn version_of(alloc: Global, text: &str) -> Result<Version, LineFault> {
     match value_of(alloc, text)? {
         Some(value) => version_in(alloc, &value),
         None => Err(LineFault::NotAVersion),
@@ -75,9 +50,7 @@ pub fn version_of(alloc: Global, text: &str) -> Result<Version, LineFault>
 }
 
 /// Adds an item to a list.
-fn add<T: Drop>(items: &mut Vec<T>, item: T) -> Result<(), AllocError>
-    ensures { OnOk result (items.new.items ≡ items.old.items ++ item ∷ []) }
-{
+fn add<T: Drop>(items: &mut Vec<T>, item: T) -> Result<(), AllocError> {
     items.push(item)?;
     Ok(())
 }
@@ -101,29 +74,20 @@ fn versions_in(alloc: Global, value: &Value) -> Result<Vec<Version>, LineFault> 
 }
 
 /// The versions of a JSON list.
-impl FromWords for Vec<Version> {
-    type Err = LineFault;
-
-    fn from_words(alloc: Global, words: &str) -> Result<Vec<Version>, LineFault> {
-        match value_of(alloc, words)? {
-            Some(value) => versions_in(alloc, &value),
-            None => Err(LineFault::NotAVersion),
-        }
+pub fn versions_of(alloc: Global, text: &str) -> Result<Vec<Version>, LineFault> {
+    match value_of(alloc, text)? {
+        Some(value) => versions_in(alloc, &value),
+        None => Err(LineFault::NotAVersion),
     }
 }
 
 /// The version `{"n":"NUMBER"}`.
-pub fn version_numbered(alloc: Global, number: u64) -> Result<Version, LineFault>
-    ensures { IfOk result (λ version.
-        option_and_then text_map_of (read_text (numbered_text number)) ≡ Some version) }
-{
+pub fn version_numbered(alloc: Global, number: u64) -> Result<Version, LineFault> {
     let text = format!(in alloc; "{{\"n\":\"{number}\"}}")?;
     version_of(alloc, text.as_str())
 }
 
-fn push_numbered(alloc: Global, versions: &mut Vec<Version>, count: u32) -> Result<(), LineFault>
-    ensures { OnOk result (length versions.new.items ≡ length versions.old.items + count) }
-{
+fn push_numbered(alloc: Global, versions: &mut Vec<Version>, count: u32) -> Result<(), LineFault> {
     for before in 0..count {
         add(versions, version_numbered(alloc, u64::from(before) + 1)?)?;
     }
@@ -131,17 +95,13 @@ fn push_numbered(alloc: Global, versions: &mut Vec<Version>, count: u32) -> Resu
 }
 
 /// The versions `{"n":"1"}` to `{"n":"COUNT"}`.
-pub fn numbered(alloc: Global, count: u32) -> Result<Vec<Version>, LineFault>
-    ensures { IfOk result (λ versions. length versions.items ≡ count) }
-{
+pub fn numbered(alloc: Global, count: u32) -> Result<Vec<Version>, LineFault> {
     let mut versions = Vec::new(alloc);
     push_numbered(alloc, &mut versions, count)?;
     Ok(versions)
 }
 
-fn pin_in(alloc: Global, value: &Value) -> Result<Pin, LineFault>
-    ensures { IfOk result (λ pin. text_map_of (view value.now) ≡ Some pin) }
-{
+fn pin_in(alloc: Global, value: &Value) -> Result<Pin, LineFault> {
     match Pin::from_value(alloc, value) {
         Ok(pin) => Ok(pin),
         Err(HistoryFault::NoMemory) => Err(LineFault::NoMemory),
@@ -150,9 +110,7 @@ fn pin_in(alloc: Global, value: &Value) -> Result<Pin, LineFault>
 }
 
 /// The pin of a JSON text.
-pub fn pin_of(alloc: Global, text: &str) -> Result<Pin, LineFault>
-    ensures { IfOk result (λ pin. option_and_then text_map_of (read_text text.now) ≡ Some pin) }
-{
+pub fn pin_of(alloc: Global, text: &str) -> Result<Pin, LineFault> {
     match value_of(alloc, text)? {
         Some(value) => pin_in(alloc, &value),
         None => Err(LineFault::NotAPin),
@@ -160,25 +118,18 @@ pub fn pin_of(alloc: Global, text: &str) -> Result<Pin, LineFault>
 }
 
 /// The pair that `SCOPE.PLACE` spells.
-pub fn pair_of(word: &str) -> Result<(u32, u32), LineFault>
-    ensures scope { IfOk result (λ pair. pair.0 ≡ number_in (before 46 word.now)) }
-    ensures place { IfOk result (λ pair. pair.1 ≡ number_in (behind 46 word.now)) }
-{
-    let (scope, place) = word.split_once('.').ok_or(LineFault::NotAPair)?;
+pub fn pair_of(word: &str) -> Result<(u32, u32), LineFault> {
+    let (scope, place) = word.split_once(".").ok_or(LineFault::NotAPair)?;
     Ok((number_of(scope)?, number_of(place)?))
 }
 
 /// The pairs of words with blanks between.
-impl FromWords for Vec<(u32, u32)> {
-    type Err = LineFault;
-
-    fn from_words(alloc: Global, words: &str) -> Result<Vec<(u32, u32)>, LineFault> {
-        let mut pairs = Vec::new(alloc);
-        for word in words.split_whitespace() {
-            add(&mut pairs, pair_of(word)?)?;
-        }
-        Ok(pairs)
+pub fn pairs_of(alloc: Global, words: &str) -> Result<Vec<(u32, u32)>, LineFault> {
+    let mut pairs = Vec::new(alloc);
+    for word in words.split_whitespace() {
+        add(&mut pairs, pair_of(word)?)?;
     }
+    Ok(pairs)
 }
 
 /// The used place that `INPUT=SCOPE.PLACE` spells.
@@ -200,21 +151,14 @@ fn push_used(alloc: Global, used: &mut Vec<Used>, words: &str) -> Result<(), Lin
 }
 
 /// The used places of words with blanks between.
-impl FromWords for Vec<Used> {
-    type Err = LineFault;
-
-    fn from_words(alloc: Global, words: &str) -> Result<Vec<Used>, LineFault> {
-        let mut used = Vec::new(alloc);
-        push_used(alloc, &mut used, words)?;
-        Ok(used)
-    }
+pub fn used_places(alloc: Global, words: &str) -> Result<Vec<Used>, LineFault> {
+    let mut used = Vec::new(alloc);
+    push_used(alloc, &mut used, words)?;
+    Ok(used)
 }
 
 /// The scope of a resource of a pipeline.
-pub fn scope_in(pipeline: &Pipeline, name: &str) -> Result<Scope, LineFault>
-    ensures { IfOk result (λ scope.
-        option_map scope_of (resource_of name.now (pipeline_data pipeline.now).resources) ≡ Some scope) }
-{
+pub fn scope_in(pipeline: &Pipeline, name: &str) -> Result<Scope, LineFault> {
     match pipeline.resource(name) {
         Some(resource) => Ok(resource.scope().copy()?),
         None => Err(LineFault::NoResource),
@@ -235,9 +179,7 @@ pub fn status_of(word: &str) -> Result<Status, LineFault>
 }
 
 /// The name of a status.
-pub fn status_name(status: Status) -> &'static str
-    ensures { result.now ≡ status_word status }
-{
+pub fn status_name(status: Status) -> &'static str {
     match status {
         Status::Running => "running",
         Status::Succeeded => "succeeded",
@@ -248,9 +190,7 @@ pub fn status_name(status: Status) -> &'static str
 }
 
 /// The name of an outcome.
-pub fn outcome_name(outcome: Outcome) -> &'static str
-    ensures { result.now ≡ outcome_word outcome }
-{
+pub fn outcome_name(outcome: Outcome) -> &'static str {
     match outcome {
         Outcome::Succeeded => "succeeded",
         Outcome::Failed => "failed",

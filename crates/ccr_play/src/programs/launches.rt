@@ -1,51 +1,17 @@
 //! Launches of checks and asks, and what ends and task files answer.
 
 use super::{object, part, some_version, source_text, version};
-use crate::answers::Answers;
 use anyhow::{Result, anyhow};
 use ccr_history::{Object, Version};
 use ccr_pipeline::{Pipeline, Resource, TaskConfig, Variable, read, read_task};
 use ccr_process::{Ended, Launch};
-use ccr_rows::{FromWords, fault_of, places, places_by_launcher};
+use ccr_rows::{end_of, fault_of, places};
 use ccr_steps::{Answered, Ask};
 use ccr_task::{
     Places, Said, StepLabel, answered_of, can_launch, check_launch, config_of, launch_of,
     started_ask, started_check,
 };
 use std::alloc::{AllocError, Global};
-
-/// What is asked of launches, of ends and of tasks' files.
-#[derive(Clone, Copy)]
-pub(super) enum Launching {
-    /// What is started without a launcher.
-    Launched,
-    /// What is started with one.
-    ByLauncher,
-    /// The same at a step with the timeout that comes first.
-    Timed,
-    /// Where something lies in a build's folder.
-    InBuild,
-    /// What an end answers.
-    Ended,
-    /// What the bytes of a task's file answer.
-    TaskFile,
-    /// What a task's file answers that a shelf doesn't give.
-    TaskFileFault,
-}
-
-impl Answers for Launching {
-    fn answer(self, alloc: Global, given: &str) -> Result<String> {
-        match self {
-            Launching::Launched => launched(alloc, &places(alloc)?, given),
-            Launching::ByLauncher => launched(alloc, &places_by_launcher(alloc)?, given),
-            Launching::Timed => timed(alloc, &places_by_launcher(alloc)?, given),
-            Launching::InBuild => in_build(alloc, given),
-            Launching::Ended => ended(alloc, given),
-            Launching::TaskFile => task_file(alloc, given),
-            Launching::TaskFileFault => task_file_fault(alloc, given),
-        }
-    }
-}
 
 /// Where programs are started, and the timeout of the step that starts them.
 #[derive(Clone, Copy, Drop)]
@@ -270,20 +236,20 @@ fn launched_at(alloc: Global, site: &Site<'_>, given: &str) -> Result<String> {
 }
 
 /// What is started in these places, at a step without a timeout.
-fn launched(alloc: Global, places: &Places, given: &str) -> Result<String> {
+pub(super) fn launched(alloc: Global, places: &Places, given: &str) -> Result<String> {
     let timeout = None;
     launched_at(alloc, &Site { places, timeout }, given)
 }
 
 /// The same at a step with the timeout that comes first.
-fn timed(alloc: Global, places: &Places, given: &str) -> Result<String> {
+pub(super) fn timed(alloc: Global, places: &Places, given: &str) -> Result<String> {
     let (timeout, given) = given.split_once(" ").unwrap_or((given, "-"));
     let timeout = Some(timeout);
     launched_at(alloc, &Site { places, timeout }, given)
 }
 
 /// Where something lies in a build's folder: `JOB NUMBER NAME`.
-fn in_build(alloc: Global, given: &str) -> Result<String> {
+pub(super) fn in_build(alloc: Global, given: &str) -> Result<String> {
     let mut words = given.split_whitespace();
     let (job, number) = (words.next().unwrap_or(""), words.next().unwrap_or(""));
     let name = words.next().unwrap_or("");
@@ -344,18 +310,18 @@ fn words_of(alloc: Global, end: &Ended) -> Result<String> {
 }
 
 /// What an end of a fetch, of a push and of a task answers.
-fn ended(alloc: Global, given: &str) -> Result<String> {
-    let end = Ended::from_words(alloc, given)?;
+pub(super) fn ended(alloc: Global, given: &str) -> Result<String> {
+    let end = end_of(alloc, given)?;
     words_of(alloc, &end)
 }
 
 /// What the bytes of a task's file answer.
-fn task_file(alloc: Global, given: &str) -> Result<String> {
+pub(super) fn task_file(alloc: Global, given: &str) -> Result<String> {
     let bytes = Vec::from_slice(alloc, given.as_bytes())?;
     Ok(word(alloc, config_of(alloc, Ok(bytes)))?)
 }
 
 /// What a task's file answers that a shelf doesn't give.
-fn task_file_fault(alloc: Global, given: &str) -> Result<String> {
+pub(super) fn task_file_fault(alloc: Global, given: &str) -> Result<String> {
     Ok(word(alloc, config_of(alloc, Err(fault_of(given))))?)
 }

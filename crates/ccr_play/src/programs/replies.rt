@@ -1,34 +1,9 @@
 //! Replies: `PROGRAM BYTES`.
 
-use crate::answers::Answers;
 use anyhow::Result;
 use ccr_history::Version;
 use ccr_protocol::{ReplyFault, read_check, read_in, read_out};
 use std::alloc::Global;
-
-/// What is asked of a reply.
-#[derive(Clone, Copy)]
-pub(super) enum Reply {
-    /// What it is read as.
-    Read,
-    /// What it is read as with a line feed behind it.
-    Line,
-    /// How many of its beginnings are no JSON.
-    Cut,
-    /// How often it is refused with one byte changed.
-    Spoilt,
-}
-
-impl Answers for Reply {
-    fn answer(self, alloc: Global, given: &str) -> Result<String> {
-        match self {
-            Reply::Read => read(alloc, given.as_bytes()),
-            Reply::Line => read_line(alloc, given),
-            Reply::Cut => cut(alloc, given.as_bytes()),
-            Reply::Spoilt => spoilt(alloc, given.as_bytes()),
-        }
-    }
-}
 
 /// Adds keys, a blank after each.
 fn push_keys(alloc: Global, told: &mut String, versions: &[Version]) -> Result<()> {
@@ -63,7 +38,7 @@ fn halves(given: &[u8]) -> (&[u8], &[u8]) {
 }
 
 /// What a program's reply is read as.
-fn read(alloc: Global, given: &[u8]) -> Result<String> {
+pub(super) fn read(alloc: Global, given: &[u8]) -> Result<String> {
     let (program, reply) = halves(given);
     let version = match program {
         b"check" => return checked(alloc, reply),
@@ -77,12 +52,12 @@ fn read(alloc: Global, given: &[u8]) -> Result<String> {
 }
 
 /// What a program's reply with a line feed behind it is read as.
-fn read_line(alloc: Global, given: &str) -> Result<String> {
+pub(super) fn read_line(alloc: Global, given: &str) -> Result<String> {
     read(alloc, format!(in alloc; "{given}\n")?.as_bytes())
 }
 
 /// How many of a reply's beginnings `in` may not write, since they are no JSON.
-fn cut(alloc: Global, reply: &[u8]) -> Result<String> {
+pub(super) fn cut(alloc: Global, reply: &[u8]) -> Result<String> {
     let mut refused = 0u64;
     for (i, _) in reply.iter().enumerate() {
         if read_in(alloc, &reply[..i]).err() == Some(ReplyFault::NotJson) {
@@ -110,7 +85,7 @@ fn refusals(alloc: Global, spoilt: &[u8]) -> (u64, u64) {
 }
 
 /// How often a reply with one byte changed is refused: by `check` for any byte, by `out` as no JSON for the byte 255.
-fn spoilt(alloc: Global, reply: &[u8]) -> Result<String> {
+pub(super) fn spoilt(alloc: Global, reply: &[u8]) -> Result<String> {
     let (mut all, mut listed, mut not_json) = (0u64, 0u64, 0u64);
     for (i, _) in reply.iter().enumerate() {
         for byte in [0u8, b'"', b'0', b'[', b'}', b'\\', b'n', 255] {

@@ -1,29 +1,10 @@
 //! Requests: `PROGRAM SOURCE | VERSION | PARAMS`.
 
 use super::{object, part, some_version, version};
-use crate::answers::Answers;
 use anyhow::Result;
 use ccr_history::Object;
 use ccr_protocol::{check_request, in_request, out_request};
 use std::alloc::Global;
-
-/// What is asked of a request.
-#[derive(Clone, Copy)]
-pub(super) enum Request {
-    /// What a program is sent.
-    Sent,
-    /// How many bytes that are.
-    Length,
-}
-
-impl Answers for Request {
-    fn answer(self, alloc: Global, given: &str) -> Result<String> {
-        match self {
-            Request::Sent => sent(alloc, given),
-            Request::Length => length(alloc, given),
-        }
-    }
-}
 
 /// What `check` is sent.
 fn to_check(alloc: Global, source: Option<&Object>, parts: &str) -> Result<Vec<u8>> {
@@ -60,7 +41,7 @@ fn bytes(alloc: Global, given: &str) -> Result<Vec<u8>> {
 }
 
 /// What a program is sent, or what refuses it.
-fn sent(alloc: Global, given: &str) -> Result<String> {
+pub(super) fn sent(alloc: Global, given: &str) -> Result<String> {
     match bytes(alloc, given) {
         Ok(bytes) => Ok(String::from_utf8(bytes)?),
         Err(fault) => Ok(format!(in alloc; "{fault}")?),
@@ -68,7 +49,7 @@ fn sent(alloc: Global, given: &str) -> Result<String> {
 }
 
 /// How many bytes a program is sent, or what refuses them.
-fn length(alloc: Global, given: &str) -> Result<String> {
+pub(super) fn length(alloc: Global, given: &str) -> Result<String> {
     match bytes(alloc, given) {
         Ok(bytes) => {
             let count = bytes.len();

@@ -4,12 +4,11 @@
 //! what the build's tasks read. An end is a status, `0:OUTPUT`, `killed`, `not-started` or `too-long`.
 
 use super::part;
-use crate::answers::Answers;
-use crate::steps::{Moves, Starts, pipeline_of};
+use crate::steps::{pipeline_of, push_moved, started_in};
 use anyhow::{Result, anyhow};
 use ccr_pipeline::Pipeline;
-use ccr_process::{Ended, Launch, Runner, Scripted};
-use ccr_rows::{FromWords, places};
+use ccr_process::{Launch, Runner, Scripted};
+use ccr_rows::{ends_of, places};
 use ccr_steps::{Answered, Ask, BuildRun};
 use ccr_task::{
     Places, Shelf, ShelfAnswer, ShelfScript, answered_of, can_launch, config_of, launch_of,
@@ -83,7 +82,7 @@ fn push_seen(alloc: Global, line: &mut String, runner: &Scripted, run: &BuildRun
     if let Some(outcome) = run.outcome() {
         write!(line, "{outcome:?}")?;
     }
-    run.push_moved(alloc, line, ", moved")?;
+    push_moved(alloc, line, ", moved", run)?;
     Ok(())
 }
 
@@ -95,7 +94,7 @@ fn seen(alloc: Global, runner: &Scripted, run: &BuildRun) -> Result<String> {
 
 /// Plays a build of a pipeline to its end.
 fn play_in(alloc: Global, world: &mut World<'_>, given: &str) -> Result<BuildRun> {
-    let mut run = world.pipeline.build(alloc, part(given, 1))?;
+    let mut run = started_in(alloc, world.pipeline, part(given, 1))?;
     world.play(alloc, &mut run)?;
     Ok(run)
 }
@@ -121,7 +120,7 @@ fn played_by(
 
 /// The same, with the programs' ends and the file of a case.
 fn played_of(alloc: Global, pipeline: &Pipeline, given: &str) -> Result<String> {
-    let ends = VecDeque::<Ended>::from_words(alloc, part(given, 3))?;
+    let ends = ends_of(alloc, part(given, 3))?;
     let files = files_of(alloc, part(given, 2))?;
     let mut runner = Scripted::new(alloc, ends);
     let mut shelf = ShelfScript::new(files, VecDeque::new(alloc));
@@ -129,12 +128,7 @@ fn played_of(alloc: Global, pipeline: &Pipeline, given: &str) -> Result<String> 
 }
 
 /// What is seen of the build of a case.
-#[derive(Clone, Copy)]
-pub(super) struct Whole;
-
-impl Answers for Whole {
-    fn answer(self, alloc: Global, given: &str) -> Result<String> {
-        let pipeline = pipeline_of(alloc, part(given, 0))?;
-        played_of(alloc, &pipeline, given)
-    }
+pub(super) fn played(alloc: Global, given: &str) -> Result<String> {
+    let pipeline = pipeline_of(alloc, part(given, 0))?;
+    played_of(alloc, &pipeline, given)
 }

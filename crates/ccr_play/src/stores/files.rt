@@ -1,7 +1,6 @@
 //! The two files of a database, in memory.
-ghost use Rattle.std.specs.Prelude.{◌≡◌, IsTrue, IfOk};
-ghost use Rattle.sqlite_disk.specs.Fuse.{calls_left, inner_of};
-ghost use Rattle.sqlite_disk.specs.Memory.{memory_bytes, memory_is_usable};
+ghost use Rattle.std.specs.Prelude.{IsTrue};
+ghost use Rattle.sqlite_disk.specs.Memory.{memory_is_usable};
 
 use anyhow::Result;
 use sqlite::{Files, Options};
@@ -13,9 +12,7 @@ pub(super) type Fused = Files<Fuse<Memory>>;
 
 /// How the files are used. Few pages are kept in memory, so that there are many calls of a file. A log that is so many
 /// frames long is copied into the database.
-pub(super) fn options(frames: u32) -> Options
-    ensures { result.checkpoint_frames ≡ frames }
-{
+pub(super) fn options(frames: u32) -> Options {
     Options {
         cache_pages: 2,
         spill_pages: 2,
@@ -35,9 +32,7 @@ pub(super) fn empty_files(alloc: Global) -> Files<Memory>
 }
 
 /// A file that holds these bytes, which a crash leaves.
-pub(super) fn file_of(alloc: Global, bytes: &[u8]) -> Result<Memory>
-    ensures { IfOk result (λ file. IsTrue (memory_is_usable file)) }
-{
+pub(super) fn file_of(alloc: Global, bytes: &[u8]) -> Result<Memory> {
     let mut file = Memory::new(alloc);
     file.write_at(0, bytes)?;
     file.sync()?;
@@ -45,9 +40,7 @@ pub(super) fn file_of(alloc: Global, bytes: &[u8]) -> Result<Memory>
 }
 
 /// A file with the bytes of another, which fails after so many calls.
-fn fused_copy(alloc: Global, file: &Memory, calls: u64) -> Result<Fuse<Memory>>
-    ensures { IfOk result (λ copy. calls_left copy ≡ calls) }
-{
+fn fused_copy(alloc: Global, file: &Memory, calls: u64) -> Result<Fuse<Memory>> {
     Ok(Fuse::new(file_of(alloc, file.bytes())?, calls))
 }
 
@@ -57,9 +50,7 @@ pub(super) fn fused(
     files: &Files<Memory>,
     log_calls: u64,
     db_calls: u64,
-) -> Result<Fused>
-    ensures { IfOk result (λ copies. (calls_left copies.log ≡ log_calls) × (calls_left copies.db ≡ db_calls)) }
-{
+) -> Result<Fused> {
     Ok(Files {
         log: fused_copy(alloc, &files.log, log_calls)?,
         db: fused_copy(alloc, &files.db, db_calls)?,
@@ -67,9 +58,7 @@ pub(super) fn fused(
 }
 
 /// What a program that is killed leaves: all that it wrote.
-pub(super) fn left_by_kill(alloc: Global, files: &Fused) -> Result<Files<Memory>>
-    ensures { IfOk result (λ left. IsTrue (memory_is_usable left.log) × IsTrue (memory_is_usable left.db)) }
-{
+pub(super) fn left_by_kill(alloc: Global, files: &Fused) -> Result<Files<Memory>> {
     Ok(Files {
         log: file_of(alloc, files.log.inner().bytes())?,
         db: file_of(alloc, files.db.inner().bytes())?,
@@ -77,9 +66,7 @@ pub(super) fn left_by_kill(alloc: Global, files: &Fused) -> Result<Files<Memory>
 }
 
 /// What a crash of the machine leaves: what was synced.
-pub(super) fn left_by_crash(files: Fused) -> Fused
-    ensures { IsTrue (memory_is_usable (inner_of result.log)) × IsTrue (memory_is_usable (inner_of result.db)) }
-{
+pub(super) fn left_by_crash(files: Fused) -> Fused {
     let mut files = files;
     files.log.crash();
     files.db.crash();
@@ -90,10 +77,7 @@ pub(super) fn left_by_crash(files: Fused) -> Fused
 pub(super) fn bytes_of(
     alloc: Global,
     files: &Files<Memory>,
-) -> Result<(Vec<u8>, Vec<u8>), AllocError>
-    ensures { IfOk result (λ bytes. (bytes.0.items ≡ memory_bytes files.now.log)
-        × (bytes.1.items ≡ memory_bytes files.now.db)) }
-{
+) -> Result<(Vec<u8>, Vec<u8>), AllocError> {
     let log = Vec::from_slice(alloc, files.log.bytes())?;
     let db = Vec::from_slice(alloc, files.db.bytes())?;
     Ok((log, db))

@@ -4,7 +4,6 @@ ghost use Rattle.sqlite_disk.specs.Memory.{memory_is_usable};
 
 use super::files::{bytes_of, empty_files, file_of};
 use super::runs::prepared;
-use crate::answers::Answers;
 use anyhow::{Result, anyhow, bail};
 use ccr_history::StoreFault;
 use ccr_store::{Store, open_fault_of, prepare};
@@ -15,28 +14,20 @@ use std::alloc::Global;
 /// A connection to a database whose files are in memory.
 type Filed = Connection<FileStore<Memory>>;
 
-/// What a file holds, of which a line tells how a store refuses it.
+/// What a file holds.
 #[derive(Clone, Copy)]
-pub(super) enum Content {
-    /// A database that statements make.
-    Foreign,
-    /// A database with the six tables of an empty history, to which statements are given.
-    Spoiled,
-    /// A text.
-    Text,
-}
-
-impl Answers for Content {
-    fn answer(self, alloc: Global, given: &str) -> Result<String> {
-        tried_told(alloc, files_of(alloc, self, given)?)
-    }
+pub(super) enum Content<'t> {
+    /// A database that these statements make.
+    Foreign(&'t str),
+    /// A database with the six tables of an empty history, to which these statements are given.
+    Spoiled(&'t str),
+    /// This text.
+    Text(&'t str),
 }
 
 // ---- the files
 /// Closes a database.
-fn closed(conn: Filed) -> Result<Files<Memory>>
-    ensures { IfOk result (λ files. IsTrue (memory_is_usable files.log) × IsTrue (memory_is_usable files.db)) }
-{
+fn closed(conn: Filed) -> Result<Files<Memory>> {
     match conn.close_files() {
         Ok(files) => Ok(files),
         Err((error, _)) => Err(error.into()),
@@ -56,7 +47,6 @@ fn fill(alloc: Global, conn: &mut Filed, has_tables: bool, statements: &str) -> 
 /// Fills a database and closes it.
 fn filled(alloc: Global, conn: Filed, has_tables: bool, statements: &str) -> Result<Files<Memory>>
     requires { conn.in_transaction ≡ false }
-    ensures { IfOk result (λ files. IsTrue (memory_is_usable files.log) × IsTrue (memory_is_usable files.db)) }
 {
     let mut conn = conn;
     fill(alloc, &mut conn, has_tables, statements)?;
@@ -72,9 +62,7 @@ fn made(alloc: Global, has_tables: bool, statements: &str) -> Result<Files<Memor
 }
 
 /// Files in which a history is kept, given the number of the first format.
-pub(super) fn lowered(alloc: Global, files: Files<Memory>) -> Result<Files<Memory>>
-    ensures { IfOk result (λ files. IsTrue (memory_is_usable files.log) × IsTrue (memory_is_usable files.db)) }
-{
+pub(super) fn lowered(alloc: Global, files: Files<Memory>) -> Result<Files<Memory>> {
     if !files.may_be_used() {
         bail!("the files can't be used")
     }
@@ -85,13 +73,13 @@ pub(super) fn lowered(alloc: Global, files: Files<Memory>) -> Result<Files<Memor
 }
 
 /// The files of this content.
-fn files_of(alloc: Global, content: Content, given: &str) -> Result<Files<Memory>> {
+fn files_of(alloc: Global, content: Content<'_>) -> Result<Files<Memory>> {
     match content {
-        Content::Foreign => made(alloc, false, given),
-        Content::Spoiled => made(alloc, true, given),
-        Content::Text => Ok(Files {
+        Content::Foreign(statements) => made(alloc, false, statements),
+        Content::Spoiled(statements) => made(alloc, true, statements),
+        Content::Text(text) => Ok(Files {
             log: Memory::new(alloc),
-            db: file_of(alloc, given.as_bytes())?,
+            db: file_of(alloc, text.as_bytes())?,
         }),
     }
 }
@@ -163,4 +151,9 @@ fn tried_told(alloc: Global, files: Files<Memory>) -> Result<String> {
     let before = bytes_of(alloc, &files)?;
     let looked = tried(alloc, files)?;
     looked_told(alloc, &looked, &before)
+}
+
+/// The same, of a database of this content.
+pub(super) fn refusal_told(alloc: Global, content: Content<'_>) -> Result<String> {
+    tried_told(alloc, files_of(alloc, content)?)
 }

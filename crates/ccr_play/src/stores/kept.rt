@@ -1,4 +1,4 @@
-//! A history that a storage keeps, and the lines that change it.
+//! A history that a storage keeps.
 ghost use Rattle.std.specs.Prelude.{◌≢◌};
 ghost use Rattle.std.specs.List.{AllByRecursion};
 ghost use Rattle.ccr_history.specs.Changes.{AreUsed, AreMoved, Admits};
@@ -6,12 +6,10 @@ ghost use Rattle.ccr_history.specs.Edits.{edit_data, HasItsNumbers};
 ghost use Rattle.ccr_history.specs.TextMap.{IsAscending};
 ghost use Rattle.ccr_history.specs.declared.build.Status.TheVariants.{Running};
 
-use anyhow::{Result, anyhow, bail};
+use anyhow::{Result, bail};
 use ccr_history::{
     Edit, Ended, History, HistoryFault, Made, Pin, Scope, Status, Storage, Used, Version,
 };
-use ccr_pipeline::{Pipeline, read};
-use ccr_rows::{FromWords, number_of, numbered, pin_of, scope_in, split, status_of};
 use std::alloc::Global;
 use std::snapshot::Snapshot;
 
@@ -44,14 +42,14 @@ impl<S: Storage + Drop> Kept<S> {
     }
 
     /// Sets the text of the pipeline.
-    fn set_text(&mut self, alloc: Global, text: &[u8]) -> Result<()> {
+    pub(super) fn set_text(&mut self, alloc: Global, text: &[u8]) -> Result<()> {
         let before = Snapshot::of(&self.history);
         self.history.set_text(Vec::from_slice(alloc, text)?);
         self.commit(alloc, before, Edit::Text(Vec::from_slice(alloc, text)?))
     }
 
     /// Reports versions, unless they have no place in the table.
-    fn report(&mut self, alloc: Global, scope: Scope, seen: Vec<Version>) -> Result<()> {
+    pub(super) fn report(&mut self, alloc: Global, scope: Scope, seen: Vec<Version>) -> Result<()> {
         let before = Snapshot::of(&self.history);
         match self.history.report(alloc, scope, &seen) {
             Ok(reported) => {
@@ -64,7 +62,7 @@ impl<S: Storage + Drop> Kept<S> {
     }
 
     /// Makes a build, and gives its number.
-    fn add_build(&mut self, alloc: Global, job: &str, used: Vec<Used>) -> Result<u32>
+    pub(super) fn add_build(&mut self, alloc: Global, job: &str, used: Vec<Used>) -> Result<u32>
         requires used { AreUsed self.old.history.tables used.items }
     {
         if self.history.build_count() >= 1_000_000 {
@@ -84,7 +82,7 @@ impl<S: Storage + Drop> Kept<S> {
     }
 
     /// Ends a build that runs, with the pairs that it moved.
-    fn end_build(
+    pub(super) fn end_build(
         &mut self,
         alloc: Global,
         job: &str,
@@ -110,7 +108,7 @@ impl<S: Storage + Drop> Kept<S> {
     }
 
     /// Pins a resource by command.
-    fn set_pin(&mut self, alloc: Global, resource: &str, pin: Pin) -> Result<()> {
+    pub(super) fn set_pin(&mut self, alloc: Global, resource: &str, pin: Pin) -> Result<()> {
         let before = Snapshot::of(&self.history);
         pin.rules();
         self.history.set_pin(alloc, resource, pin.copy()?)?;
@@ -122,7 +120,7 @@ impl<S: Storage + Drop> Kept<S> {
     }
 
     /// Clears the pin by command of a resource.
-    fn clear_pin(&mut self, alloc: Global, resource: &str) -> Result<()> {
+    pub(super) fn clear_pin(&mut self, alloc: Global, resource: &str) -> Result<()> {
         let before = Snapshot::of(&self.history);
         self.history.clear_pin(resource);
         self.commit(
@@ -130,98 +128,5 @@ impl<S: Storage + Drop> Kept<S> {
             before,
             Edit::PinCleared(String::from_str(alloc, resource)?),
         )
-    }
-}
-
-// ---- by lines
-impl<S: Storage + Drop> Kept<S> {
-    fn report_to(
-        &mut self,
-        alloc: Global,
-        pipeline: &Option<Pipeline>,
-        name: &str,
-        seen: Vec<Version>,
-    ) -> Result<()> {
-        let pipeline = pipeline.as_ref().ok_or(anyhow!("no pipeline"))?;
-        let scope = scope_in(pipeline, name)?;
-        self.report(alloc, scope, seen)
-    }
-
-    /// Makes a build, unless its places aren't ones of the tables.
-    fn make(&mut self, alloc: Global, job: &str, words: &str) -> Result<()> {
-        let used = Vec::<Used>::from_words(alloc, words)?;
-        if self.history.can_use(&used) {
-            self.add_build(alloc, job, used)?;
-        }
-        Ok(())
-    }
-
-    /// Ends a build, unless it doesn't run, or its pairs aren't places of the tables.
-    fn end(&mut self, alloc: Global, job: &str, words: &str) -> Result<()> {
-        let (number, words) = split(words);
-        let (status, words) = split(words);
-        let (number, status) = (number_of(number)?, status_of(status)?);
-        let moved = Vec::<(u32, u32)>::from_words(alloc, words)?;
-        let runs = match self.history.build(job, number) {
-            Some(build) => build.status() == Status::Running,
-            None => false,
-        };
-        if runs && self.history.can_move(&moved) {
-            self.end_build(alloc, job, number, status, &moved)?;
-        }
-        Ok(())
-    }
-
-    /// Makes a build of a job, and ends it as failed.
-    fn fail_one(&mut self, alloc: Global, job: &str) -> Result<()> {
-        let number = self.add_build(alloc, job, Vec::new(alloc))?;
-        self.end_build(alloc, job, number, Status::Failed, &[])
-    }
-
-    /// Makes so many builds of a job, and ends each as failed.
-    fn fail(&mut self, alloc: Global, job: &str, count: u32) -> Result<()> {
-        for _build in 0..count {
-            self.fail_one(alloc, job)?;
-        }
-        Ok(())
-    }
-
-    /// Sets a pipeline, and gives it.
-    fn set(&mut self, alloc: Global, text: &str) -> Result<Pipeline> {
-        let pipeline = read(alloc, text.as_bytes())?;
-        self.set_text(alloc, text.as_bytes())?;
-        Ok(pipeline)
-    }
-}
-
-/// What lines change.
-pub(super) trait Changed {
-    /// Makes the change of a line, if it makes one.
-    fn play(&mut self, alloc: Global, pipeline: &mut Option<Pipeline>, line: &str) -> Result<()>;
-}
-
-impl<S: Storage + Drop> Changed for Kept<S> {
-    fn play(&mut self, alloc: Global, pipeline: &mut Option<Pipeline>, line: &str) -> Result<()> {
-        let (kind, given) = split(line);
-        let (first, rest) = split(given);
-        match kind {
-            "pipeline" | "again" => {
-                *pipeline = Some(self.set(alloc, given)?);
-                Ok(())
-            }
-            "versions" => self.report_to(
-                alloc,
-                pipeline,
-                first,
-                Vec::<Version>::from_words(alloc, rest)?,
-            ),
-            "fill" => self.report_to(alloc, pipeline, first, numbered(alloc, number_of(rest)?)?),
-            "build" => self.make(alloc, first, rest),
-            "failed" => self.fail(alloc, first, number_of(rest)?),
-            "end" => self.end(alloc, first, rest),
-            "pin" => self.set_pin(alloc, first, pin_of(alloc, rest)?),
-            "unpin" => self.clear_pin(alloc, first),
-            _ => Ok(()),
-        }
     }
 }

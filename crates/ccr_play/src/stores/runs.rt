@@ -1,10 +1,8 @@
 //! Runs of a store over files that may fail, up to the first call that is refused.
 ghost use Rattle.std.specs.Prelude.{◌≡◌, false};
 
-mod stops;
-
 use super::files::{Fused, options};
-use super::kept::{Changed, Kept};
+use super::kept::Kept;
 use anyhow::{Result, bail};
 use ccr_history::{History, StoreFault};
 use ccr_pipeline::Pipeline;
@@ -12,7 +10,6 @@ use ccr_store::{Store, prepare};
 use sqlite::{Alter, Connection, FileStore};
 use sqlite_disk::{Fuse, Memory};
 use std::alloc::Global;
-pub(super) use stops::Stop;
 
 /// What a run was doing when it ended.
 #[derive(Clone, Copy, Debug, PartialEq, Eq)]
@@ -127,7 +124,7 @@ fn run_opened(alloc: Global, conn: Connection<FileStore<Fuse<Memory>>>, lines: &
 }
 
 /// Opens the files, and keeps the lines in them.
-fn run(alloc: Global, files: Fused, frames: u32, lines: &str) -> Result<Reached> {
+pub(super) fn run(alloc: Global, files: Fused, frames: u32, lines: &str) -> Result<Reached> {
     if !files.may_be_used() {
         bail!("the files can't be used")
     }

@@ -83,6 +83,19 @@ fn is_as_anew(
     }
 }
 
+/// The first job of the core's pipeline whose index doesn't answer as one that is built anew, if there is one.
+pub(crate) fn first_other(alloc: Global, core: &Core) -> Result<Option<&str>, AllocError> {
+    let Some(pipeline) = core.pipeline() else {
+        return Ok(None);
+    };
+    for job in pipeline.jobs() {
+        if !is_as_anew(alloc, core, pipeline, job.name.as_str())? {
+            return Ok(Some(job.name.as_str()));
+        }
+    }
+    Ok(None)
+}
+
 fn push_index(text: &mut String, index: &Index) -> Result<(), AllocError> {
     text.push_str("greatest")?;
     for input in 0..index.input_count() {
@@ -101,33 +114,11 @@ fn index_told(alloc: Global, index: &Index) -> Result<String, AllocError> {
     Ok(text)
 }
 
-/// What keeps an index for each job.
-pub(super) trait Indexed {
-    /// The first job of the pipeline whose index doesn't answer as one that is built anew, if there is one.
-    fn first_other(&self, alloc: Global) -> Result<Option<&str>, AllocError>;
-
-    /// The best place of each input of a job, and how many builds of each job that it names are viable, while nothing is
-    /// fixed; `null` where there is no such job.
-    fn index_text(&self, alloc: Global, job: &str) -> Result<String, AllocError>;
-}
-
-impl Indexed for Core {
-    fn first_other(&self, alloc: Global) -> Result<Option<&str>, AllocError> {
-        let Some(pipeline) = self.pipeline() else {
-            return Ok(None);
-        };
-        for job in pipeline.jobs() {
-            if !is_as_anew(alloc, self, pipeline, job.name.as_str())? {
-                return Ok(Some(job.name.as_str()));
-            }
-        }
-        Ok(None)
-    }
-
-    fn index_text(&self, alloc: Global, job: &str) -> Result<String, AllocError> {
-        match self.index(job) {
-            Some(index) => index_told(alloc, index),
-            None => String::from_str(alloc, "null"),
-        }
+/// The best place of each input of a job, and how many builds of each job that it names are viable, while nothing is fixed;
+/// `null` where there is no such job.
+pub(crate) fn index_text(alloc: Global, core: &Core, job: &str) -> Result<String, AllocError> {
+    match core.index(job) {
+        Some(index) => index_told(alloc, index),
+        None => String::from_str(alloc, "null"),
     }
 }

@@ -1,12 +1,10 @@
 //! Scripts: how programs end, what folders and files answer, how many commits are taken, how the next one fails, and whether
 //! there is a launcher.
-ghost use Rattle.std.specs.Prelude.{◌≡◌, IfOk, false};
-ghost use Rattle.ccr_history.specs.History.{no_history};
 
 use anyhow::Result;
 use ccr_history::{History, StoreFault};
 use ccr_process::Ended;
-use ccr_rows::{FromWords, number_of, split};
+use ccr_rows::{end_of, number_of, sights_of, split};
 use ccr_task::{ShelfAnswer, ShelfFault};
 use std::alloc::{AllocError, Global};
 use std::collections::VecDeque;
@@ -37,9 +35,7 @@ fn fault_of(word: &str) -> StoreFault {
 
 impl Script {
     /// No answers; every commit is taken, and the history is empty.
-    pub(super) fn new(alloc: Global) -> Script
-        ensures { (result.history ≡ no_history) × (result.has_notes ≡ false) × (result.has_launcher ≡ false) }
-    {
+    pub(super) fn new(alloc: Global) -> Script {
         Script {
             ends: VecDeque::new(alloc),
             answers: VecDeque::new(alloc),
@@ -52,27 +48,8 @@ impl Script {
         }
     }
 
-    /// Adds what a line says; false where it says nothing of a script.
-    pub(super) fn add(&mut self, alloc: Global, kind: &str, words: &str) -> Result<bool>
-        ensures { IfOk result (λ is_added. is_added ≡ false → self.new ≡ self.old) }
-    {
-        match kind {
-            "ends" => self.add_ends(alloc, words)?,
-            "sights" => self.add_sights(alloc, words)?,
-            "file" => self.add_file(alloc, words)?,
-            "folders" => self.add_folders(super::number_of(words), true)?,
-            "no-folders" => self.add_folders(super::number_of(words), false)?,
-            "commits" => self.fail_after(words)?,
-            "runs" => self.add_builds(alloc, words)?,
-            "notes" => self.has_notes = true,
-            "launcher" => self.has_launcher = true,
-            _ => return Ok(false),
-        }
-        Ok(true)
-    }
-
     /// Has the storage take so many commits, and fail at each later one with the fault that stands behind their number.
-    fn fail_after(&mut self, words: &str) -> Result<()> {
+    pub(super) fn fail_after(&mut self, words: &str) -> Result<()> {
         let (commits, fault) = split(words);
         self.commits = number_of(commits)?;
         self.fault = fault_of(fault);
@@ -80,15 +57,15 @@ impl Script {
     }
 
     /// Adds ends, a word each.
-    fn add_ends(&mut self, alloc: Global, words: &str) -> Result<()> {
+    pub(super) fn add_ends(&mut self, alloc: Global, words: &str) -> Result<()> {
         for word in words.split_whitespace() {
-            self.ends.push_back(Ended::from_words(alloc, word)?)?;
+            self.ends.push_back(end_of(alloc, word)?)?;
         }
         Ok(())
     }
 
     /// Adds so many answers to calls for folders: that it is done, or that it failed.
-    fn add_folders(&mut self, count: u32, is_done: bool) -> Result<(), AllocError> {
+    pub(super) fn add_folders(&mut self, count: u32, is_done: bool) -> Result<(), AllocError> {
         for _ in 0..count {
             self.answers.push_back(if is_done {
                 ShelfAnswer::Done
@@ -101,7 +78,7 @@ impl Script {
 
     /// Adds a build of a job, which runs, to the history that the server begins with; so many, where a number follows the
     /// name.
-    fn add_builds(&mut self, alloc: Global, words: &str) -> Result<()> {
+    pub(super) fn add_builds(&mut self, alloc: Global, words: &str) -> Result<()> {
         let (job, number) = split(words);
         let count = if number.is_empty() {
             1
@@ -116,15 +93,15 @@ impl Script {
     }
 
     /// Adds whether folders are there, a word each.
-    fn add_sights(&mut self, alloc: Global, words: &str) -> Result<()> {
-        for sight in VecDeque::<Result<bool, ShelfFault>>::from_words(alloc, words)? {
+    pub(super) fn add_sights(&mut self, alloc: Global, words: &str) -> Result<()> {
+        for sight in sights_of(alloc, words)? {
             self.sights.push_back(sight)?;
         }
         Ok(())
     }
 
     /// Adds an answer to a call for a file: its text.
-    fn add_file(&mut self, alloc: Global, text: &str) -> Result<(), AllocError> {
+    pub(super) fn add_file(&mut self, alloc: Global, text: &str) -> Result<(), AllocError> {
         let bytes = Vec::from_slice(alloc, text.as_bytes())?;
         self.answers.push_back(ShelfAnswer::Read(bytes))?;
         Ok(())

@@ -1,5 +1,5 @@
 //! A server over a script.
-ghost use Rattle.std.specs.Prelude.{◌≡◌, ◌≤◌, [], None, ⊤, IfOk, IsOk};
+ghost use Rattle.std.specs.Prelude.{⊤};
 ghost use Rattle.ccr_process.specs.Runs.{script_pairs};
 ghost use Rattle.ccr_task.specs.Shelves.{script_calls};
 ghost use Rattle.ccr_serve.specs.Views.{view_of, IsKept};
@@ -57,9 +57,7 @@ impl<W: Write + Drop> Serving<W> {
         writer: W,
         script: Script,
         out: &mut Printed<W, E>,
-    ) -> Result<Serving<W>, ServeFault>
-        ensures { IsOk result → script.history.text ≡ None }
-    {
+    ) -> Result<Serving<W>, ServeFault> {
         // A script's history has builds and no pipeline, so there is none that a server couldn't read.
         if script.history.text().is_some() {
             return Err(ServeFault::Closed);
@@ -92,29 +90,23 @@ impl<W: Write + Drop> Serving<W> {
         }
     }
 
-    /// Does a command. Nothing waits to be shown after it where nothing waited before.
+    /// Does a command.
     pub(super) fn command<E: Write>(
         &mut self,
         command: &Command,
         out: &mut Printed<W, E>,
-    ) -> Result<u8, ServeFault>
-        ensures { out.old.waiting ≡ [] → out.new.waiting ≡ [] }
-    {
+    ) -> Result<u8, ServeFault> {
         self.server.command(&AsText, command, out)
     }
 
     /// Goes a round.
-    pub(super) fn round<E: Write>(&mut self, out: &mut Printed<W, E>) -> Result<u8, ServeFault>
-        ensures { IfOk result (λ status. status ≡ 0) }
-    {
+    pub(super) fn round<E: Write>(&mut self, out: &mut Printed<W, E>) -> Result<u8, ServeFault> {
         self.server.round(out)?;
         Ok(0)
     }
 
     /// Takes a turn: 0, or 1 where no build runs.
-    pub(super) fn turn<E: Write>(&mut self, out: &mut Printed<W, E>) -> Result<u8, ServeFault>
-        ensures { IfOk result (λ status. status ≤ 1) }
-    {
+    pub(super) fn turn<E: Write>(&mut self, out: &mut Printed<W, E>) -> Result<u8, ServeFault> {
         if self.server.turn(out)? { Ok(0) } else { Ok(1) }
     }
 }

@@ -5,22 +5,34 @@ use std::cell::Cell;
 use std::io;
 use std::io::Write;
 use std::rc::Rc;
+use std::string::FromUtf8Error;
 
 /// A writer whose bytes stand behind those of the others that were made from it.
 #[derive(Drop)]
 pub(super) struct Tape {
-    pub(super) alloc: Global,
-    pub(super) bytes: Rc<Cell<Vec<u8>>>,
+    alloc: Global,
+    bytes: Rc<Cell<Vec<u8>>>,
 }
 
-/// Another writer to the same bytes.
-impl Clone for Tape {
-    fn clone(&self) -> Result<Tape, AllocError> {
+impl Tape {
+    /// Nothing is written.
+    pub(super) fn new(alloc: Global) -> Result<Tape, AllocError> {
+        let bytes = Rc::new(alloc, Cell::new(Vec::new(alloc)))?;
+        Ok(Tape { alloc, bytes })
+    }
+
+    /// Another writer to the same bytes.
+    pub(super) fn another(&self) -> Result<Tape, AllocError> {
         let bytes = self.bytes.clone()?;
         Ok(Tape {
             alloc: self.alloc,
             bytes,
         })
+    }
+
+    /// What was written; then nothing is.
+    pub(super) fn text(&self) -> Result<String, FromUtf8Error> {
+        String::from_utf8(self.bytes.replace(Vec::new(self.alloc)))
     }
 }
 

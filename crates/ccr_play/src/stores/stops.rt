@@ -6,12 +6,11 @@
 
 ghost use Rattle.std.specs.Prelude.{◌≡◌, false};
 
-use super::{Reached, Stage, run};
-use crate::answers::Answers;
-use crate::stores::files::{empty_files, fused, left_by_crash, left_by_kill, options};
-use crate::stores::foreign::lowered;
-use crate::stores::kept::{Changed, Kept};
-use crate::stores::{held, whole_text};
+use super::files::{empty_files, fused, left_by_crash, left_by_kill, options};
+use super::foreign::lowered;
+use super::kept::Kept;
+use super::runs::{Reached, Stage, run};
+use super::stored::{held, whole_text};
 use anyhow::{Result, anyhow, bail};
 use ccr_history::{History, Storage};
 use ccr_store::Store;
@@ -21,24 +20,6 @@ use std::alloc::Global;
 
 /// More calls of a file than any of these runs makes.
 const MOST_CALLS: u64 = 1_000_000;
-
-/// What is stopped, with after how many frames the log is copied.
-#[derive(Clone, Copy)]
-pub(crate) enum Stop {
-    /// A store that keeps lines.
-    Kept(u32),
-    /// A store that takes the history of lines in the first format.
-    Raised(u32),
-}
-
-impl Answers for Stop {
-    fn answer(self, alloc: Global, given: &str) -> Result<String> {
-        match self {
-            Stop::Kept(frames) => stops_told(alloc, given, frames),
-            Stop::Raised(frames) => raises_told(alloc, given, frames),
-        }
-    }
-}
 
 /// What is run: files to begin with, after how many frames the log is copied, the lines that are kept, and the history after each
 /// number of them, as text.
@@ -278,7 +259,7 @@ fn stopped(alloc: Global, lines: &str, frames: u32, texts: &[String]) -> Result<
 /// Stops a store at each call of each of its files: while it is made in empty files and keeps these lines, and while
 /// all of it is loaded. The lines that tell how often it was stopped; an error where a stop left another history than
 /// the one before the change that it cut short, or after it.
-fn stops_told(alloc: Global, lines: &str, frames: u32) -> Result<String> {
+pub(super) fn stops_told(alloc: Global, lines: &str, frames: u32) -> Result<String> {
     let texts = texts_of(alloc, lines)?;
     stopped(alloc, lines, frames, &texts)
 }
@@ -317,7 +298,7 @@ fn raised(alloc: Global, lines: &str, frames: u32, texts: &[String]) -> Result<S
 
 /// The same while a database of the first format is taken that holds the history of these lines: it is loaded and
 /// written over. And then while it is taken as it was left, which writes nothing.
-fn raises_told(alloc: Global, lines: &str, frames: u32) -> Result<String> {
+pub(super) fn raises_told(alloc: Global, lines: &str, frames: u32) -> Result<String> {
     let texts = texts_of(alloc, lines)?;
     raised(alloc, lines, frames, &texts)
 }
